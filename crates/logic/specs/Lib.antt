@@ -1,0 +1,5 @@
+pub mod Value
+pub mod Formula
+pub mod Atoms
+pub mod HereAndThere
+pub mod AnswerSet
