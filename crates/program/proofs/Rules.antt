@@ -1,0 +1,48 @@
+-- A rule is satisfied by document 01's words exactly if its formula has the value 2: the smallest and the largest are the values of conjunction and disjunction.
+use mathlib.Core.Path.{_≡_, refl, sym}
+use mathlib.Core.Logic.{_↔_}
+use mathlib.Core.Bool.{Bool, true, _&&_, and-assoc, Bool·beq}
+use mathlib.Core.List.{List, [], _∷_, _++_, map}
+use Prim.Native.Nat.{ℕ}
+use lib.Dec.{leb}
+use Rattle.logic.specs.declared.Value.{Value}
+use Rattle.logic.specs.declared.Value.the-variants.{Both}
+use Rattle.logic.specs.Value.{number, implication, negation, trueHere}
+use Rattle.logic.specs.Formula.{Formula, atom, neg, Reading, valueOf, value, satisfies}
+use Rattle.logic.proofs.Bools.{beq-sound}
+use Rattle.logic.proofs.Finite.{every, agree₂}
+use Rattle.logic.proofs.Values.{trueHere-iff}
+use Rattle.program.specs.Rule.{RuleOf, Rule, smallest, largest, bodyValue, holds, allHold, conjs, disjs, ruleFormula}
+use Rattle.program.specs.Program.{Program, satisfiesProgram, programFormulas}
+
+implication-true : (a b : Value) → trueHere (implication a b) ≡ leb (number a) (number b)
+implication-true = agree₂ Bool·beq beq-sound (λ a b. trueHere (implication a b)) (λ a b. leb (number a) (number b)) refl
+
+module _ (J : Reading) where
+  conjs-value : (g : ℕ → Formula) (l : List ℕ) → value J (conjs (map g l)) ≡ smallest (λ a. value J (g a)) l
+  conjs-value g [] = refl
+  conjs-value g (a ∷ l) = rw (conjs-value g l)
+
+  disjs-value : (l : List ℕ) → value J (disjs (map atom l)) ≡ largest (valueOf J) l
+  disjs-value [] = refl
+  disjs-value (a ∷ l) = rw (disjs-value l)
+
+  pub rule-value : (r : Rule) → trueHere (value J (ruleFormula r)) ≡ holds (valueOf J) r
+  rule-value r = rw (conjs-value atom (r .positives), conjs-value (λ a. neg (atom a)) (r .negatives), disjs-value (r .heads))
+      (implication-true (bodyValue (valueOf J) r) (largest (valueOf J) (r .heads)))
+
+  -- A rule is satisfied exactly if its formula has the value 2.
+  pub rule-iff : (r : Rule) → (holds (valueOf J) r ≡ true) ↔ (value J (ruleFormula r) ≡ Both)
+  rule-iff r = rw (← rule-value r) (trueHere-iff (value J (ruleFormula r)))
+
+  pub rules-value : (rs : List Rule) → satisfies J (map ruleFormula rs) ≡ allHold (valueOf J) rs
+  rules-value [] = refl
+  rules-value (r ∷ rs) = rw (rule-value r, rules-value rs)
+
+  -- A program is satisfied exactly if its formulas are.
+  pub program-value : (p : Program) → satisfies J (programFormulas p) ≡ satisfiesProgram J p
+  program-value p = rules-value (p .rules)
+
+pub allHold-append : {S : Type 0} (v : S → Value) (rs qs : List (RuleOf S)) → allHold v (rs ++ qs) ≡ (allHold v rs && allHold v qs)
+allHold-append v [] qs = refl
+allHold-append v (r ∷ rs) qs = rw (allHold-append v rs qs) (sym (and-assoc (holds v r) (allHold v rs) (allHold v qs)))

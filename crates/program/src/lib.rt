@@ -1,0 +1,1 @@
+//! The program image: flat rules as bytes.

@@ -1,0 +1,63 @@
+-- The bench cases P1 to P9: each book beside its answer sets.
+use mathlib.Core.Bool.{Bool, true, false, cond}
+use mathlib.Core.List.{List, [], _∷_, map}
+use Prim.Native.Nat.{ℕ, suc}
+use Rattle.logic.specs.Atoms.{Atoms}
+use Rattle.logic.specs.AnswerSet.{answerSets}
+use Rattle.theory.specs.Book.{Kind, falseKind, trueKind, atomKind, notKind, andKind, orKind, impliesKind, Node, Book, bookFormulas}
+
+-- The atoms of a set, ascending, the first of the list being atom k.
+abbrev pub atomsFrom : (k : ℕ) → Atoms → List ℕ
+atomsFrom k [] = []
+atomsFrom k (t ∷ T) = let rest = atomsFrom (suc k) T in cond t (k ∷ rest) rest
+
+-- The answer sets of a book, each by its atoms.
+abbrev pub setsOf : Book → List (List ℕ)
+setsOf b = map (atomsFrom 0) (answerSets (b .atoms) (bookFormulas b))
+
+abbrev node : Kind → ℕ → ℕ → Node
+node k l r = record { kind = k; left = l; right = r }
+
+abbrev book : ℕ → List Node → List ℕ → Book
+book A ns rs = record { atoms = A; nodes = ns; roots = rs }
+
+abbrev p : Node
+p = node atomKind 0 0
+
+abbrev q : Node
+q = node atomKind 1 0
+
+abbrev r : Node
+r = node atomKind 2 0
+
+-- A bench case: a book, and the answer sets that it is to have.
+pub record BenchCase : Type 0 where
+  pub theory : Book
+  pub sets : List (List ℕ)
+
+abbrev case : Book → List (List ℕ) → BenchCase
+case b s = record { theory = b; sets = s }
+
+abbrev pub benchCases : List BenchCase
+benchCases =
+    -- P1: p or not p
+    case (book 1 (p ∷ node notKind 0 0 ∷ node orKind 0 1 ∷ []) (2 ∷ [])) ([] ∷ (0 ∷ []) ∷ []) ∷
+    -- P2: not not p
+    case (book 1 (p ∷ node notKind 0 0 ∷ node notKind 1 0 ∷ []) (2 ∷ [])) [] ∷
+    -- P3: p or q
+    case (book 2 (p ∷ q ∷ node orKind 0 1 ∷ []) (2 ∷ [])) ((0 ∷ []) ∷ (1 ∷ []) ∷ []) ∷
+    -- P4: (r implies q) implies p
+    case (book 3 (p ∷ q ∷ r ∷ node impliesKind 2 1 ∷ node impliesKind 3 0 ∷ []) (4 ∷ [])) ((0 ∷ []) ∷ []) ∷
+    -- P5: p implies false
+    case (book 1 (p ∷ node falseKind 0 0 ∷ node impliesKind 0 1 ∷ []) (2 ∷ [])) ([] ∷ []) ∷
+    -- P6: no atoms, the root false
+    case (book 0 (node falseKind 0 0 ∷ []) (0 ∷ [])) [] ∷
+    -- P7: no nodes, no roots
+    case (book 1 [] []) ([] ∷ []) ∷
+    -- P8: p or q; not q implies p; not p implies q
+    case
+    (book 2 (p ∷ q ∷ node orKind 0 1 ∷ node notKind 1 0 ∷ node impliesKind 3 0 ∷ node notKind 0 0 ∷ node impliesKind 5 1 ∷ []) (2 ∷ 4 ∷ 6 ∷ []))
+    ((0 ∷ []) ∷ (1 ∷ []) ∷ []) ∷
+    -- P9: p or q; q implies p; p implies q
+    case (book 2 (p ∷ q ∷ node orKind 0 1 ∷ node impliesKind 1 0 ∷ node impliesKind 0 1 ∷ []) (2 ∷ 3 ∷ 4 ∷ [])) ((0 ∷ 1 ∷ []) ∷ []) ∷
+    []

@@ -1,0 +1,1 @@
+//! The theory image: a rule book as bytes.

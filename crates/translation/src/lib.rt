@@ -1,0 +1,1 @@
+//! The translation of a rule book into flat rules.
