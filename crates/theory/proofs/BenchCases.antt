@@ -1,7 +1,31 @@
--- P1 to P9 have the answer sets of their table: computed from the definitions.
+-- P1 to P9 have the answer sets of their table, and are well formed: both computed from the definitions.
 use mathlib.Core.Path.{_≡_, refl}
-use mathlib.Core.List.{map}
-use Rattle.theory.specs.BenchCases.{benchCases, setsOf}
+use mathlib.Core.Logic.{⊎-elim}
+use mathlib.Core.Bool.{Bool, true, _&&_}
+use mathlib.Core.List.{List, [], _∷_, map, List·Memᴰ, List·Memᴰ·cases-cons, List·Memᴰ·not-nil}
+use lib.ListN.{length}
+use Rattle.logic.proofs.Bools.{&&-split}
+use Rattle.theory.specs.Book.{Book, allFit, allBelow, WellFormed}
+use Rattle.theory.specs.BenchCases.{BenchCase, benchCases, setsOf}
 
+-- The one claim over the one table.
 pub benchCases-sets : map (λ c. setsOf (c .theory)) benchCases ≡ map (λ c. c .sets) benchCases
 benchCases-sets = refl
+
+-- Where two functions give equal lists, they are equal at each element.
+map-at : {S T : Type 0} (f g : S → T) (l : List S) → map f l ≡ map g l → (s : S) → List·Memᴰ s l → f s ≡ g s
+map-at f g [] e s m = absurd (List·Memᴰ·not-nil m)
+map-at f g (t ∷ l) e s m =
+    let here : f t ≡ g t = cc in
+    let later : map f l ≡ map g l = cc in
+    ⊎-elim (λ (p : s ≡ t). rw p here) (map-at f g l later s) (List·Memᴰ·cases-cons m)
+
+pub case-sets : (c : BenchCase) → List·Memᴰ c benchCases → setsOf (c .theory) ≡ c .sets
+case-sets = map-at (λ c. setsOf (c .theory)) (λ c. c .sets) benchCases benchCases-sets
+
+pub case-wellFormed : (c : BenchCase) → List·Memᴰ c benchCases → WellFormed (c .theory)
+case-wellFormed c m =
+    let fit : BenchCase → Bool = λ c. allFit (c .theory .atoms) 0 (c .theory .nodes) in
+    let below : BenchCase → Bool = λ c. allBelow (length (c .theory .nodes)) (c .theory .roots) in
+    let both = &&-split (fit c) (below c) (map-at (λ c. fit c && below c) (λ c. true) benchCases refl c m) in
+    record { nodes-fit = both .0; roots-below = both .1 }

@@ -17,6 +17,10 @@ pub record Node : Type 0 where
   pub left : ℕ
   pub right : ℕ
 
+-- Node k of a list of nodes.
+abbrev pub nodeAt : List Node → ℕ → Node
+nodeAt ns k = getD ns k (record { kind = falseKind; left = 0; right = 0 })
+
 -- A book has atoms 0 to A - 1, nodes and roots.
 pub record Book : Type 0 where
   pub atoms : ℕ
