@@ -30,8 +30,8 @@ implication-number = agree₂ eqb eqb-true (λ x y. number (implication x y)) (�
 pub smaller-choice : (x y : Value) → smaller x y ≡ cond (leb (number x) (number y)) x y
 smaller-choice = agree₂ same same-sound smaller (λ x y. cond (leb (number x) (number y)) x y) refl
 
-pub larger-choice : (x y : Value) → larger x y ≡ cond (leb (number x) (number y)) y x
-larger-choice = agree₂ same same-sound larger (λ x y. cond (leb (number x) (number y)) y x) refl
+pub larger-choice : (x y : Value) → larger x y ≡ cond (leb (number y) (number x)) x y
+larger-choice = agree₂ same same-sound larger (λ x y. cond (leb (number y) (number x)) x y) refl
 
 pub implication-choice : (x y : Value) → implication x y ≡ cond (leb (number x) (number y)) Both y
 implication-choice = agree₂ same same-sound implication (λ x y. cond (leb (number x) (number y)) Both y) refl

@@ -1,5 +1,5 @@
 -- The three values compute the logic of here-and-there: at each world a formula's value says its truth there, by induction on the formula.
-use mathlib.Core.Path.{_≡_, refl, sym, ap₂}
+use mathlib.Core.Path.{_≡_, refl, sym, ap, ap₂, _∙_}
 use mathlib.Core.Logic.{_↔_, Iff·trans, Iff·symm}
 use mathlib.Core.Bool.{Bool, true, false, not, _&&_, _||_, Bool·beq}
 use mathlib.Core.List.{List, map, List·Memᴰ}
@@ -35,6 +35,9 @@ at-implication : (w : World) (u v : Value) → at w (implication u v) ≡ everyF
 at-implication w = agree₂ Bool·beq beq-sound (λ u v. at w (implication u v)) (λ u v. everyFrom w (λ x. not (at x u) || at x v))
     (elim w [ here ↦ refl | there ↦ refl ])
 
+everyFrom-equal : (w : World) (p q : World → Bool) → ((u : World) → p u ≡ q u) → everyFrom w p ≡ everyFrom w q
+everyFrom-equal w p q h = rw (h here, h there)
+
 module _ (I : Reading) where
   at-atom : (w : World) (a : ℕ) → at w (value I (atom a)) ≡ truth (hereOf I) (thereOf I) w (atom a)
   at-atom here a = sym (List·getD-map trueHere I a Neither)
@@ -46,11 +49,11 @@ module _ (I : Reading) where
   value-truth here verum = refl
   value-truth there verum = refl
   value-truth w (atom a) = at-atom w a
-  value-truth w (neg f) = rw (← value-truth here f, ← value-truth there f) (at-negation w (value I f))
+  value-truth w (neg f) = at-negation w (value I f) ∙ everyFrom-equal w _ _ (λ u. ap not (value-truth u f))
   value-truth w (conj f g) = rw (← value-truth w f, ← value-truth w g) (at-smaller w (value I f) (value I g))
   value-truth w (disj f g) = rw (← value-truth w f, ← value-truth w g) (at-larger w (value I f) (value I g))
-  value-truth w (impl f g) =
-      rw (← value-truth here f, ← value-truth there f, ← value-truth here g, ← value-truth there g) (at-implication w (value I f) (value I g))
+  value-truth w (impl f g) = at-implication w (value I f) (value I g)
+      ∙ everyFrom-equal w _ _ (λ u. ap₂ (λ a b. not a || b) (value-truth u f) (value-truth u g))
 
   -- A formula's value is 2 exactly if it is true here, and at least 1 exactly if it is true there.
   pub value-here : (f : Formula) → (value I f ≡ Both) ↔ (truth (hereOf I) (thereOf I) here f ≡ true)

@@ -56,10 +56,10 @@ impl Value {
     pub fn or(self, other: Value) -> Value
         ensures { λ r. ⌜ r ≡ larger self other ⌝ }
     {
-        if self.byte() <= other.byte() {
-            other
-        } else {
+        if other.byte() <= self.byte() {
             self
+        } else {
+            other
         }
     }
 
