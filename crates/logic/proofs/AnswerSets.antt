@@ -5,11 +5,12 @@ use mathlib.Core.Bool.{Bool, true, false, not, _&&_, cond}
 use mathlib.Core.List.{List, [], _∷_, List·Memᴰ, List·Memᴰ·head, List·Memᴰ·tail, List·Memᴰ·cases-cons, List·Memᴰ·not-nil}
 use Prim.Native.Nat.{ℕ}
 use lib.ListN.{length}
+use borrow.Author.Tests.{not-true}
 use Rattle.logic.specs.Formula.{Formula, satisfies}
 use Rattle.logic.specs.Atoms.{Atoms, inside, proper, reading, allSets}
 use Rattle.logic.specs.HereAndThere.{Model, Equilibrium}
 use Rattle.logic.specs.AnswerSet.{AnswerSet, each, those, isAnswerSet, answerSets}
-use Rattle.logic.proofs.Bools.{&&-split, &&-join, not-true, false-of, not-both}
+use Rattle.logic.proofs.Bools.{&&-split, &&-join, false-of, not-both}
 use Rattle.logic.proofs.Sets.{inside-refl, allSets-each, each-allSets, length-inside}
 use Rattle.logic.proofs.Worlds.{model-iff}
 

@@ -1,11 +1,10 @@
 -- Laws of Bool that turn a computed test into facts and back, each by its cases.
 use mathlib.Core.Path.{_≡_, refl, sym, _∙_}
 use mathlib.Core.Logic.{_↔_}
-use mathlib.Core.Bool.{Bool, true, false, not, _&&_, Bool·beq, false≢true}
+use mathlib.Core.Bool.{Bool, true, false, not, _&&_, Bool·beq, false≢true, and-eq-true-iff}
 
 pub &&-split : (a b : Bool) → (a && b) ≡ true → (a ≡ true) × (b ≡ true)
-&&-split true b h = (refl, h)
-&&-split false b h = (h, cc)
+&&-split a b h = and-eq-true-iff a b .0 h
 
 pub &&-join : {a b : Bool} → a ≡ true → b ≡ true → (a && b) ≡ true
 &&-join p q = rw (p, q)
@@ -14,10 +13,6 @@ pub &&-join : {a b : Bool} → a ≡ true → b ≡ true → (a && b) ≡ true
 pub &&-if : (a b c : Bool) → (a ≡ true → b ≡ c) → (a && b) ≡ (a && c)
 &&-if true b c h = h refl
 &&-if false b c h = refl
-
-pub not-true : (a : Bool) → not a ≡ true → a ≡ false
-not-true true h = sym h
-not-true false h = refl
 
 -- A Bool that is not true is false.
 pub false-of : (a : Bool) → (a ≡ true → ⊥) → a ≡ false

@@ -5,13 +5,14 @@ use mathlib.Core.Bool.{Bool, true, false, not, _&&_, _||_}
 use mathlib.Core.List.{List, [], _∷_, map}
 use Prim.Native.Nat.{ℕ}
 use lib.ListN.{length}
+use borrow.Author.Tests.{not-true}
 use Rattle.logic.specs.declared.Value.{Value}
 use Rattle.logic.specs.declared.Value.the-variants.{Neither, There, Both}
 use Rattle.logic.specs.Value.{trueHere, trueThere}
 use Rattle.logic.specs.Formula.{Formula, Reading, satisfies}
 use Rattle.logic.specs.Atoms.{Atoms, inside, proper, mark, reading, hereOf, thereOf}
 use Rattle.logic.specs.AnswerSet.{AnswerSet}
-use Rattle.logic.proofs.Bools.{&&-split, &&-join, not-true, false-of, not-both}
+use Rattle.logic.proofs.Bools.{&&-split, &&-join, false-of, not-both}
 use Rattle.logic.proofs.Values.{up}
 use Rattle.logic.proofs.Sets.{inside-refl, inside-equal, length-reading, reading-pair, pair-inside, hereOf-reading}
 

@@ -1,2 +1,4 @@
 pub mod Rule
 pub mod Program
+pub mod Image
+pub mod Rows

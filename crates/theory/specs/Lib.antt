@@ -1,2 +1,4 @@
 pub mod Book
 pub mod BenchCases
+pub mod Image
+pub mod Rows

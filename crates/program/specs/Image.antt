@@ -1,0 +1,96 @@
+-- The program image: where its numbers stand, the program that it is, and the image of a program.
+use mathlib.Core.Bool.{Bool, true, cond, _&&_}
+use mathlib.Core.List.{List, [], _∷_, _++_}
+use Prim.Native.Nat.{ℕ, suc, _+_, _*_}
+use lib.Dec.{eqb, leb, ltb}
+use lib.ListN.{getD, length, take, drop}
+use Rattle.wire.specs.Wire.{u16At, u16Bytes, u32Bytes}
+use Rattle.wire.specs.Sequence.{upTo}
+use Rattle.program.specs.Rule.{Rule}
+use Rattle.program.specs.Program.{Program}
+
+-- A, B and K of the header.
+abbrev pub atomCount : List ℕ → ℕ
+atomCount p = u16At p 0
+
+abbrev pub sizeOf : List ℕ → ℕ
+sizeOf p = u16At p 2
+
+abbrev pub ruleCount : List ℕ → ℕ
+ruleCount p = u16At p 4
+
+-- Rules start at 16, and the image has 16 + 10K bytes.
+abbrev pub imageLength : (K : ℕ) → ℕ
+imageLength K = 16 + K * 10
+
+-- The part of the image that starts at the rules' offset.
+abbrev pub ruleSection : List ℕ → List ℕ
+ruleSection p = drop 16 p
+
+-- Reading.
+
+-- The three counts of rule k of the rules' section: heads, positives, negatives.
+abbrev pub headsIn : List ℕ → ℕ → ℕ
+headsIn s k = getD s (k * 10) 0
+
+abbrev pub positivesIn : List ℕ → ℕ → ℕ
+positivesIn s k = getD s (k * 10 + 1) 0
+
+abbrev pub negativesIn : List ℕ → ℕ → ℕ
+negativesIn s k = getD s (k * 10 + 2) 0
+
+-- Its three slots.
+abbrev pub slotsIn : List ℕ → ℕ → List ℕ
+slotsIn s k = u16At s (k * 10 + 4) ∷ u16At s (k * 10 + 6) ∷ u16At s (k * 10 + 8) ∷ []
+
+-- A rule of so many heads, positives and negatives, in this order in the slots.
+abbrev pub ruleOf : (heads positives negatives : ℕ) → (slots : List ℕ) → Rule
+ruleOf h p n slots = record { heads = take h slots; positives = take p (drop h slots); negatives = take n (drop (h + p) slots) }
+
+-- Rule k of the rules' section.
+abbrev pub ruleIn : List ℕ → ℕ → Rule
+ruleIn s k = ruleOf (headsIn s k) (positivesIn s k) (negativesIn s k) (slotsIn s k)
+
+-- The first `used` slots are below B, and the others 0.
+abbrev pub slotsKeep : (B used : ℕ) → List ℕ → Bool
+slotsKeep B used [] = true
+slotsKeep B ℕ.zero (a ∷ slots) = eqb a 0 && slotsKeep B 0 slots
+slotsKeep B (suc used) (a ∷ slots) = ltb a B && slotsKeep B used slots
+
+-- Rule k has at most three literals, a zero byte that is 0, atoms below B, and 0 in its unused slots.
+abbrev pub ruleKeeps : (B : ℕ) → List ℕ → ℕ → Bool
+ruleKeeps B s k =
+    leb (headsIn s k + positivesIn s k + negativesIn s k) 3
+    && (eqb (getD s (k * 10 + 3) 0) 0 && slotsKeep B (headsIn s k + positivesIn s k + negativesIn s k) (slotsIn s k))
+
+-- The program of an image.
+unfoldable pub programOf : List ℕ → Program
+programOf p = record { atoms = atomCount p; size = sizeOf p; rules = upTo (ruleIn (ruleSection p)) (ruleCount p) }
+
+-- Writing.
+
+-- The literals of a rule: heads, then positives, then negatives.
+abbrev pub literals : Rule → List ℕ
+literals r = r .heads ++ r .positives ++ r .negatives
+
+-- Slot i of a rule; 0 where it is unused.
+abbrev pub slot : Rule → ℕ → List ℕ
+slot r i = u16Bytes (getD (literals r) i 0)
+
+-- The ten bytes of a rule.
+unfoldable pub ruleBytes : Rule → List ℕ
+ruleBytes r =
+    length (r .heads) ∷ length (r .positives) ∷ length (r .negatives) ∷ 0 ∷ (slot r 0 ++ slot r 1 ++ slot r 2)
+
+-- The bytes of a list of rules.
+unfoldable pub rulesBytes : List Rule → List ℕ
+rulesBytes [] = []
+rulesBytes (r ∷ rs) = ruleBytes r ++ rulesBytes rs
+
+-- The header of an image of K rules.
+unfoldable pub header : (A B K : ℕ) → List ℕ
+header A B K = u16Bytes A ++ u16Bytes B ++ u16Bytes K ++ u16Bytes 0 ++ u32Bytes 16 ++ u32Bytes (imageLength K)
+
+-- The image of a program.
+unfoldable pub imageOf : Program → List ℕ
+imageOf p = header (p .atoms) (p .size) (length (p .rules)) ++ rulesBytes (p .rules)

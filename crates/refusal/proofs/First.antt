@@ -1,0 +1,74 @@
+-- Laws of the first number at which a test holds, by induction on the bound; and what a loop that tries 0, 1, .. in turn needs of it. Assumes nothing.
+use mathlib.Core.Path.{_≡_, refl, sym, _∙_}
+use mathlib.Core.Logic.{⊎-elim}
+use mathlib.Core.Bool.{Bool, true, false, cond, true≢false}
+use mathlib.Core.List.{List, _∷_}
+use Prim.Native.Nat.{ℕ, zero, suc, _+_, _≤_, _<_}
+use native.Mathlib.Nat.{eq-or-lt-of-le, le-of-suc-le-suc, not-suc-le-zero}
+use native.Mathlib.Omega.{arith}
+use borrow.Author.Tests.{lt-ltb, le-ltb, ltb-false}
+use Rattle.refusal.specs.Table.{Row, refused, answer}
+use Rattle.refusal.specs.First.{first, firstSuch}
+
+-- it is at most the bound
+pub first-le : (test : ℕ → Bool) (n : ℕ) → first test n ≤ n
+unfolding first
+first-le test zero = omega arith
+first-le test (suc n) = go (test 0) (first-le (λ k. test (suc k)) n)
+  where
+    go : (b : Bool) → first (λ k. test (suc k)) n ≤ n → cond b 0 (suc (first (λ k. test (suc k)) n)) ≤ suc n
+    go true h = omega arith
+    go false h = omega arith
+
+-- below it the test fails
+pub first-before : (test : ℕ → Bool) (n k : ℕ) → k < first test n → test k ≡ false
+unfolding first
+first-before test zero k h = absurd (not-suc-le-zero h)
+first-before test (suc n) zero h = go (test 0) h
+  where
+    go : (b : Bool) → 0 < cond b 0 (suc (first (λ k. test (suc k)) n)) → b ≡ false
+    go true l = absurd (not-suc-le-zero l)
+    go false l = refl
+first-before test (suc n) (suc k) h = first-before (λ j. test (suc j)) n k (go (test 0) h)
+  where
+    go : (b : Bool) → suc k < cond b 0 (suc (first (λ j. test (suc j)) n)) → k < first (λ j. test (suc j)) n
+    go true l = absurd (not-suc-le-zero l)
+    go false l = le-of-suc-le-suc l
+
+-- at it the test holds, if it is below the bound
+pub first-at : (test : ℕ → Bool) (n : ℕ) → first test n < n → test (first test n) ≡ true
+unfolding first
+first-at test zero h = absurd (not-suc-le-zero h)
+first-at test (suc n) h = go (test 0) refl h (first-at (λ k. test (suc k)) n)
+  where
+    m : ℕ
+    m = first (λ k. test (suc k)) n
+
+    go : (b : Bool) → test 0 ≡ b → cond b 0 (suc m) < suc n → (m < n → test (suc m) ≡ true) → test (cond b 0 (suc m)) ≡ true
+    go true e l t = e
+    go false e l t = t (le-of-suc-le-suc l)
+
+module _ (test : ℕ → Bool) (n k : ℕ) (reached : k ≤ first test n) where
+  -- a loop that reached k and finds the test there stops at the first such number
+  pub first-here : k < n → test k ≡ true → first test n ≡ k
+  first-here h t = ⊎-elim (λ e. sym e) (λ l. absurd (true≢false (sym t ∙ first-before test n k l))) (eq-or-lt-of-le reached)
+
+  -- a loop that reached k and does not find the test there goes on
+  pub first-on : k < n → test k ≡ false → k + 1 ≤ first test n
+  first-on h t = ⊎-elim (λ e. absurd (true≢false (sym (first-at test n (rw (← e) h)) ∙ rw (← e) t))) (λ l. omega arith) (eq-or-lt-of-le reached)
+
+  -- a loop that reached the bound found the test nowhere
+  pub first-end : n ≤ k → first test n ≡ n
+  first-end h = omega (arith, first-le test n)
+
+-- the row of the first such number: at the number it refuses with that place, and at the bound it leaves the answer to the rows behind
+module _ (number : ℕ) (test : ℕ → Bool) (n k : ℕ) (reached : k ≤ first test n) (rows : List Row) (x : ℕ) where
+  pub firstSuch-here : k < n → test k ≡ true → answer (firstSuch number test n ∷ rows) x ≡ refused number k
+  firstSuch-here h t = rw (first-here test n k reached h t, lt-ltb k n h)
+
+  pub firstSuch-end : n ≤ k → answer (firstSuch number test n ∷ rows) x ≡ answer rows x
+  firstSuch-end h = rw (first-end test n k reached h, le-ltb n n (omega arith))
+
+-- where that row does not apply, the test fails at every number below the bound
+pub firstSuch-none : (number : ℕ) (test : ℕ → Bool) (n : ℕ) → firstSuch number test n .applies ≡ false → (k : ℕ) → k < n → test k ≡ false
+firstSuch-none number test n h k l = first-before test n k (omega (arith, ltb-false (first test n) n h))

@@ -1,0 +1,105 @@
+use mathlib.Core.Path.{_≡_, sym, _∙_}
+use mathlib.Core.Bool.{Bool}
+use mathlib.Core.List.{List, [], _∷_}
+use Prim.Native.Nat.{ℕ, _-_, _≤_}
+use native.Mathlib.Omega.{arith}
+use lib.ListN.{length, getD}
+use denote.Ref.{now}
+use borrow.Author.Needs.{needs}
+use borrow.Author.Tests.{eq-eqb, ne-eqb}
+use Rattle.refusal.specs.Table.{answer}
+use Rattle.refusal.specs.First.{first}
+use Rattle.refusal.specs.Rows.{wrong, row10, argumentRows}
+use Rattle.refusal.proofs.First.{first-le, first-on, firstSuch-here, firstSuch-end}
+use Rattle.refusal.proofs.argument.Statement.{statement}
+use Rattle.refusal.proofs.argument.Tie as tie
+use Rattle.refusal.proofs.argument.Reads as reads
+use Rattle.refusal.proofs.argument.Lts as lts
+use Rattle.refusal.proofs.accept.Reads as accept-reads
+use Rattle.refusal.proofs.is_wrong.Reads as is-wrong-reads
+use Rattle.refusal.proofs.refuse.Reads as refuse-reads
+
+-- whether the byte at an index is wrong
+abbrev wrongAt : Bool → List ℕ → ℕ → Bool
+wrongAt candidate bytes i = wrong candidate (getD bytes i 0)
+
+abbrev Inv-loop : tie.InvT-loop
+Inv-loop bytes count candidate i₀ i = i ≤ first (wrongAt candidate bytes) (length bytes)
+
+abbrev μ-loop : tie.MeasureT-loop
+μ-loop bytes count candidate i₀ i = length bytes - i
+
+refuse-requires : tie.Need-refuse-requires Inv-loop μ-loop
+refuse-requires c κs = search needs
+
+returns : tie.Need-returns Inv-loop μ-loop
+unfolding argumentRows
+returns c = c .refuse .ensures ∙ simp (ne-eqb _ _ (c .before .if1 .taken))
+
+loop-holds : tie.Need-loop-holds Inv-loop μ-loop
+loop-holds c = search needs
+
+shared-slice-read-is-wrong : tie.Need-shared-slice-read-is-wrong Inv-loop μ-loop
+shared-slice-read-is-wrong c = search needs
+
+is-wrong-requires : tie.Need-is-wrong-requires Inv-loop μ-loop
+is-wrong-requires c κs = search needs
+
+refuse-requires-2 : tie.Need-refuse-requires-2 Inv-loop μ-loop
+refuse-requires-2 c κs = search needs
+
+-- in the loop row 9 does not apply, so the answer is that of row 10
+past9 : (c : tie.At-loop Inv-loop μ-loop) →
+    let bytes = now (c .before .before .before .args .bytes) in
+    let candidate = c .before .before .before .args .candidate in
+    answer (argumentRows candidate (c .before .before .before .args .count) bytes) 0 ≡ answer (row10 candidate bytes ∷ []) 0
+unfolding argumentRows
+past9 c = simp (eq-eqb _ _ (c .before .if1 .left))
+
+returns-2 : tie.Need-returns-2 Inv-loop μ-loop
+returns-2 c =
+    let turn = c .before .before .before .before in
+    let loop = turn .before in
+    let start = loop .before .before .before in
+    c .refuse2 .ensures ∙ sym (past9 loop ∙ firstSuch-here 10 (wrongAt (start .args .candidate) (now (start .args .bytes))) (length (now (start .args .bytes))) (loop .loop .i) (loop .loop .inv) [] 0 (turn .loop-test .taken) (sym (c .before .before .is-wrong .ensures) ∙ c .before .if2 .taken))
+
+add-i : tie.Need-add-i Inv-loop μ-loop
+add-i c = search needs
+
+loop-less : tie.Need-loop-less Inv-loop μ-loop
+loop-less c = search needs
+
+loop-again : tie.Need-loop-again Inv-loop μ-loop
+loop-again c =
+    let turn = c .before .before .before in
+    let loop = turn .before in
+    let start = loop .before .before .before in
+    first-on (wrongAt (start .args .candidate) (now (start .args .bytes))) (length (now (start .args .bytes))) (loop .loop .i) (loop .loop .inv) (turn .loop-test .taken) (sym (c .before .is-wrong .ensures) ∙ c .if2 .left)
+
+accept-requires : tie.Need-accept-requires Inv-loop μ-loop
+accept-requires c κs = search needs
+
+returns-3 : tie.Need-returns-3 Inv-loop μ-loop
+returns-3 c =
+    let loop = c .before .before in
+    let start = loop .before .before .before in
+    c .accept .ensures ∙ sym (past9 loop ∙ firstSuch-end 10 (wrongAt (start .args .candidate) (now (start .args .bytes))) (length (now (start .args .bytes))) (loop .loop .i) (loop .loop .inv) [] 0 (c .before .loop-test .left))
+
+pub argument-spec : {M : Type 1} → statement M
+argument-spec =
+    tie.close
+    (tie.spec
+    Inv-loop
+    μ-loop
+    refuse-requires
+    returns
+    loop-holds
+    shared-slice-read-is-wrong
+    is-wrong-requires
+    refuse-requires-2
+    returns-2
+    add-i
+    loop-less
+    loop-again
+    accept-requires
+    returns-3)

@@ -1,0 +1,14 @@
+-- The first of the numbers below a bound at which a test holds, and the row whose place that is.
+use mathlib.Core.Bool.{Bool, cond}
+use Prim.Native.Nat.{ℕ, zero, suc}
+use lib.Dec.{ltb}
+use Rattle.refusal.specs.Table.{Row}
+
+-- the first number below n at which the test holds, and n where there is none
+unfoldable pub first : (ℕ → Bool) → ℕ → ℕ
+first test zero = 0
+first test (suc n) = cond (test 0) 0 (suc (first (λ k. test (suc k)) n))
+
+-- the row with this number that applies where the test holds at some number below n; its place is the first such
+abbrev pub firstSuch : ℕ → (ℕ → Bool) → ℕ → Row
+firstSuch number test n = record { number = number; applies = ltb (first test n) n; place = first test n }

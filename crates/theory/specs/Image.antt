@@ -1,0 +1,63 @@
+-- The theory image: where its numbers stand, and the book that it is.
+use mathlib.Core.Bool.{Bool, cond, _&&_}
+use mathlib.Core.List.{List}
+use Prim.Native.Nat.{ℕ, _+_, _*_}
+use lib.Dec.{eqb, ltb}
+use lib.ListN.{getD, drop}
+use Rattle.wire.specs.Wire.{u16At}
+use Rattle.wire.specs.Sequence.{upTo}
+use Rattle.theory.specs.Book.{Kind, falseKind, trueKind, atomKind, notKind, andKind, orKind, impliesKind, Node, Book, fits}
+
+-- A, N and R of the header.
+abbrev pub atomCount : List ℕ → ℕ
+atomCount t = u16At t 0
+
+abbrev pub nodeCount : List ℕ → ℕ
+nodeCount t = u16At t 2
+
+abbrev pub rootCount : List ℕ → ℕ
+rootCount t = u16At t 4
+
+-- Nodes start at 16, roots at 16 + 6N, and the image is exactly 16 + 6N + 2R bytes long.
+abbrev pub rootsStart : (N : ℕ) → ℕ
+rootsStart N = 16 + N * 6
+
+abbrev pub imageLength : (N R : ℕ) → ℕ
+imageLength N R = rootsStart N + R * 2
+
+-- The part of the image that starts at the nodes' offset, and the part that starts at the roots'.
+abbrev pub nodeSection : List ℕ → List ℕ
+nodeSection t = drop 16 t
+
+abbrev pub rootSection : List ℕ → List ℕ
+rootSection t = drop (rootsStart (nodeCount t)) t
+
+-- The kind of a node's first byte; row 6 refuses a byte over 6.
+abbrev pub kindOf : ℕ → Kind
+kindOf byte =
+    cond (eqb byte 0) falseKind
+    (cond (eqb byte 1) trueKind
+    (cond (eqb byte 2) atomKind
+    (cond (eqb byte 3) notKind
+    (cond (eqb byte 4) andKind
+    (cond (eqb byte 5) orKind impliesKind)))))
+
+-- Node k of the nodes' section: kind, zero byte, left, right.
+abbrev pub nodeIn : List ℕ → ℕ → Node
+nodeIn s k = record { kind = kindOf (getD s (k * 6) 0); left = u16At s (k * 6 + 2); right = u16At s (k * 6 + 4) }
+
+-- Node k has a kind, a zero byte that is 0, and keeps to its kind's row.
+abbrev pub nodeKeeps : (A : ℕ) → List ℕ → ℕ → Bool
+nodeKeeps A s k = ltb (getD s (k * 6) 0) 7 && (eqb (getD s (k * 6 + 1) 0) 0 && fits A k (nodeIn s k))
+
+-- Root i of the roots' section.
+abbrev pub rootIn : List ℕ → ℕ → ℕ
+rootIn s i = u16At s (i * 2)
+
+-- The book of an image.
+unfoldable pub bookOf : List ℕ → Book
+bookOf t = record {
+  atoms = atomCount t;
+  nodes = upTo (nodeIn (nodeSection t)) (nodeCount t);
+  roots = upTo (rootIn (rootSection t)) (rootCount t);
+}

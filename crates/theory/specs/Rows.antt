@@ -1,0 +1,51 @@
+-- Rows 1 to 7 of the refusal table: what a theory image is refused for.
+use mathlib.Core.Bool.{Bool, not, _||_}
+use mathlib.Core.List.{List, [], _∷_}
+use Prim.Native.Nat.{ℕ}
+use lib.Dec.{eqb, ltb}
+use lib.ListN.{length}
+use Rattle.refusal.specs.Table.{Row}
+use Rattle.refusal.specs.First.{firstSuch}
+use Rattle.refusal.specs.Limits.{mostAtoms, mostNodes, mostRoots}
+use Rattle.wire.specs.Wire.{u16At, u32At}
+use Rattle.theory.specs.Image.{atomCount, nodeCount, rootCount, rootsStart, imageLength, nodeSection, rootSection, nodeKeeps, rootIn}
+
+-- Row 1: the theory is shorter than 16 bytes.
+abbrev pub row1 : List ℕ → Row
+row1 t = record { number = 1; applies = ltb (length t) 16; place = 0 }
+
+-- Row 2: A, N or R is over its limit.
+abbrev pub row2 : List ℕ → Row
+row2 t = record {
+  number = 2;
+  applies = ltb mostAtoms (atomCount t) || (ltb mostNodes (nodeCount t) || ltb mostRoots (rootCount t));
+  place = 0;
+}
+
+-- Row 3: bytes 6-7 are not zero.
+abbrev pub row3 : List ℕ → Row
+row3 t = record { number = 3; applies = not (eqb (u16At t 6) 0); place = 0 }
+
+-- Row 4: an offset differs.
+abbrev pub row4 : List ℕ → Row
+row4 t = record { number = 4; applies = not (eqb (u32At t 8) 16) || not (eqb (u32At t 12) (rootsStart (nodeCount t))); place = 0 }
+
+-- Row 5: the image's length differs; its place is the length wanted.
+abbrev pub row5 : List ℕ → Row
+row5 t = record {
+  number = 5;
+  applies = not (eqb (length t) (imageLength (nodeCount t) (rootCount t)));
+  place = imageLength (nodeCount t) (rootCount t);
+}
+
+-- Row 6: a node breaks its row, or its zero byte is not 0; its place is the first such node.
+abbrev pub row6 : List ℕ → Row
+row6 t = firstSuch 6 (λ k. not (nodeKeeps (atomCount t) (nodeSection t) k)) (nodeCount t)
+
+-- Row 7: a root is not below N; its place is the first such root's index.
+abbrev pub row7 : List ℕ → Row
+row7 t = firstSuch 7 (λ i. not (ltb (rootIn (rootSection t) i) (nodeCount t))) (rootCount t)
+
+-- The rows of a theory image, in the order tested.
+unfoldable pub theoryRows : List ℕ → List Row
+theoryRows t = row1 t ∷ row2 t ∷ row3 t ∷ row4 t ∷ row5 t ∷ row6 t ∷ row7 t ∷ []

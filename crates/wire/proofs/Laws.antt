@@ -1,0 +1,109 @@
+-- Laws of numbers in bytes, by linear arithmetic, and of `over`, by cutting a list where the written part ends. Assumes nothing.
+use mathlib.Core.Path.{_≡_, refl, sym, ap, ap₂, _∙_}
+use mathlib.Core.List.{List, [], _∷_, _++_, append-assoc, append-nil}
+use Prim.Native.Nat.{ℕ, suc, _+_, _-_, _*_, _/_, _%_, _≤_, _<_}
+use native.Mathlib.Numerals.{add-one}
+use native.Mathlib.Omega.{arith}
+use lib.ListN.{length, getD, take, drop, set, length-append, length-drop, length-take}
+use lib.Seq.{take-suc, take-length, drop-length, drop-cons, set-at, append-snoc, length-take-le, take-append-seam, drop-append-seam, drop-drop, getD-append-add, getD-drop}
+use borrow.Rule.Slice.PartMut.{putMid}
+use Rattle.wire.specs.Wire.{u16At, u32At, u16Bytes, u32Bytes, Bytes, over}
+
+-- ---- numbers
+
+-- numbers of two and four bytes are below 65,536 and 4,294,967,296
+pub u16At-lt : (s : List ℕ) → Bytes s → (i : ℕ) → u16At s i < 65536
+u16At-lt s h i = omega (arith, h i, h (i + 1))
+
+pub u32At-lt : (s : List ℕ) → Bytes s → (i : ℕ) → u32At s i < 4294967296
+u32At-lt s h i = omega (arith, u16At-lt s h i, u16At-lt s h (i + 2))
+
+-- a number behind a prefix is a number of what follows it
+pub u16At-append : (before s : List ℕ) (i j : ℕ) → j ≡ length before + i → u16At (before ++ s) j ≡ u16At s i
+u16At-append before s i j e =
+    let next : length before + i + 1 ≡ length before + (i + 1) = omega arith in
+    rw (e, next, getD-append-add before s i 0, getD-append-add before s (i + 1) 0)
+
+pub u32At-append : (before s : List ℕ) (i j : ℕ) → j ≡ length before + i → u32At (before ++ s) j ≡ u32At s i
+u32At-append before s i j e = rw (u16At-append before s i j e, u16At-append before s (i + 2) (j + 2) (omega arith))
+
+-- a number of a part that starts at k is one of the whole
+pub u16At-drop : (k : ℕ) (s : List ℕ) (i : ℕ) → u16At (drop k s) i ≡ u16At s (k + i)
+u16At-drop k s i =
+    let next : k + (i + 1) ≡ k + i + 1 = omega arith in
+    rw (getD-drop k s i 0, getD-drop k s (i + 1) 0, next)
+
+-- reading what was written gives the number back
+pub u16At-u16Bytes : (before after : List ℕ) (n i : ℕ) → i ≡ length before → n < 65536 → u16At (before ++ (u16Bytes n ++ after)) i ≡ n
+u16At-u16Bytes before after n i e h = u16At-append before (u16Bytes n ++ after) 0 i (omega arith) ∙ omega arith
+
+pub u32At-u32Bytes : (before after : List ℕ) (n i : ℕ) → i ≡ length before → n < 4294967296 → u32At (before ++ (u32Bytes n ++ after)) i ≡ n
+u32At-u32Bytes before after n i e h =
+    let low : n % 256 + n / 256 % 256 * 256 ≡ n % 65536 = omega arith in
+    u32At-append before (u32Bytes n ++ after) 0 i (omega arith) ∙ omega arith
+
+-- writing what was read gives the bytes back
+pub u16Bytes-u16At : (s : List ℕ) → Bytes s → (i : ℕ) → u16Bytes (u16At s i) ≡ getD s i 0 ∷ getD s (i + 1) 0 ∷ []
+u16Bytes-u16At s h i = ap₂ (λ (a b : ℕ). a ∷ b ∷ []) (omega (arith, h i)) (omega (arith, h i, h (i + 1)))
+
+pub u32Bytes-u32At : (s : List ℕ) → Bytes s → (i : ℕ) → u32Bytes (u32At s i) ≡ getD s i 0 ∷ getD s (i + 1) 0 ∷ getD s (i + 2) 0 ∷ getD s (i + 3) 0 ∷ []
+u32Bytes-u32At s h i =
+    let x : ℕ = u16At s i in
+    let y : ℕ = u16At s (i + 2) in
+    let last : i + 2 + 1 ≡ i + 3 = omega arith in
+    let low : u16Bytes (x + y * 65536) ≡ u16Bytes x = ap₂ (λ (a b : ℕ). a ∷ b ∷ []) (omega arith) (omega arith) in
+    let high : (x + y * 65536) / 65536 ≡ y = omega (arith, u16At-lt s h i) in
+    ap₂ (λ (a b : List ℕ). a ++ b) (low ∙ u16Bytes-u16At s h i) (rw (high, ← last) (u16Bytes-u16At s h (i + 2)))
+
+-- ---- bytes written over the start of others
+
+-- the length stays
+pub length-over : (new old : List ℕ) → length new ≤ length old → length (over new old) ≡ length old
+length-over new old h = simp (length-append, length-drop) (omega arith)
+
+-- the written part is what was written
+pub take-over : (new old : List ℕ) → take (length new) (over new old) ≡ new
+take-over new old = take-append-seam new (drop (length new) old)
+
+-- the part past it is unchanged
+pub drop-over : (new old : List ℕ) → drop (length new) (over new old) ≡ drop (length new) old
+drop-over new old = drop-append-seam new (drop (length new) old)
+
+-- Where a writer stands: `out` is `done` written over `old`, and `at` is where the unwritten rest begins.
+pub record Written (done old out : List ℕ) (at : ℕ) : Type 0 where
+  pub bytes : out ≡ over done old
+  pub end : at ≡ length done
+  pub long : length out ≡ length old
+
+pub written-none : (old : List ℕ) → Written [] old old 0
+written-none old = record { bytes = refl; end = refl; long = refl }
+
+-- What the rest is as it is lent, and what the whole is when the rest comes back.
+module _ (done rest : List ℕ) where
+  left : length (done ++ rest) - length done ≡ length rest
+  left = omega (arith, length-append done rest)
+
+  lent : take (length (done ++ rest) - length done) (drop (length done) (done ++ rest)) ≡ rest
+  lent = simp (left, drop-append-seam, take-length)
+
+  given-back : (back : List ℕ) → putMid (length done) (length (done ++ rest) - length done) (done ++ rest) back ≡ done ++ back
+  given-back back = simp (left, drop-append-seam, take-append-seam, drop-length, append-nil)
+
+module _ {done old out : List ℕ} {at : ℕ} (w : Written done old out at) (more : List ℕ) (fits : length done + length more ≤ length old) where
+  -- the rest that is lent has room for what fits
+  pub turn-room : length more ≤ length (take (length out - at) (drop at out))
+  turn-room = simp (length-take, length-drop) (omega arith)
+
+  -- one writer's turn: `more` is written over the rest that it is lent
+  pub turn : {n : ℕ} {back : List ℕ} → n ≡ length more → back ≡ over more (take (length out - at) (drop at out))
+      → Written (done ++ more) old (putMid at (length out - at) out back) (at + n)
+  turn {back = back} e b =
+      let whole : putMid at (length out - at) out back ≡ over (done ++ more) old
+      = ap₂ (λ (n : ℕ) (l : List ℕ). putMid n (length l - n) l back) (w .end) (w .bytes) ∙ given-back done (drop (length done) old) back
+      ∙ ap (λ (l : List ℕ). done ++ l) (b ∙ ap₂ (λ (n : ℕ) (l : List ℕ). over more (take (length l - n) (drop n l))) (w .end) (w .bytes) ∙ ap (over more) (lent done (drop (length done) old)))
+      ∙ simp (drop-drop, length-append, append-assoc) in
+      record {
+        bytes = whole;
+        end = rw length-append (omega arith);
+        long = ap length whole ∙ length-over (done ++ more) old (rw length-append fits);
+      }

@@ -1,0 +1,56 @@
+-- Laws of the first items of a sequence, by induction on their number.
+use mathlib.Core.Path.{_≡_, refl, _∙_, ap, ap₂}
+use mathlib.Core.Logic.{⊎-elim}
+use mathlib.Core.List.{List, [], _∷_, _++_, map, map-append}
+use Prim.Native.Nat.{ℕ, zero, suc, _+_, _≤_, _<_}
+use native.Mathlib.Nat.{eq-or-lt-of-le}
+use native.Mathlib.Numerals.{add-one}
+use native.Mathlib.Omega.{arith}
+use lib.ListN.{length, getD, take, length-append, List·getD-append}
+use lib.Seq.{getD-at, take-append-le, take-all}
+use Rattle.wire.specs.Sequence.{upTo}
+
+module _ {S : Type 0} where
+  pub upTo-none : (f : ℕ → S) → upTo f 0 ≡ []
+  unfolding upTo
+  upTo-none f = refl
+
+  -- One item more.
+  pub upTo-more : (f : ℕ → S) (n : ℕ) → upTo f (n + 1) ≡ upTo f n ++ (f n ∷ [])
+  unfolding upTo
+  upTo-more f n = rw add-one
+
+  pub length-upTo : (f : ℕ → S) (n : ℕ) → length (upTo f n) ≡ n
+  unfolding upTo
+  length-upTo f zero = refl
+  length-upTo f (suc n) = rw length-append (omega (arith, length-upTo f n))
+
+  -- Item k stands at k.
+  pub getD-upTo : (f : ℕ → S) (n k : ℕ) (d : S) → k < n → getD (upTo f n) k d ≡ f k
+  unfolding upTo
+  getD-upTo f zero k d h = absurd (omega arith)
+  getD-upTo f (suc n) k d h = ⊎-elim
+      (λ (e : suc k ≡ suc n). let m : k ≡ n = omega arith in rw m (getD-at (upTo f n) (f n) [] d n (length-upTo f n)))
+      (λ (l : suc k < suc n). List·getD-append (upTo f n) (f n ∷ []) d k (omega (arith, length-upTo f n)) ∙ getD-upTo f n k d (omega arith))
+      (eq-or-lt-of-le h)
+
+  -- The first k of the first n are the first k.
+  pub take-upTo : (f : ℕ → S) (n k : ℕ) → k ≤ n → take k (upTo f n) ≡ upTo f k
+  unfolding upTo
+  take-upTo f zero zero h = refl
+  take-upTo f zero (suc k) h = absurd (omega arith)
+  take-upTo f (suc n) k h = ⊎-elim
+      (λ (e : k ≡ suc n). rw e (take-all (suc n) (upTo f (suc n)) (omega (arith, length-upTo f (suc n)))))
+      (λ (l : k < suc n). take-append-le k (upTo f n) (f n ∷ []) (omega (arith, length-upTo f n)) ∙ take-upTo f n k (omega arith))
+      (eq-or-lt-of-le h)
+
+  -- Sequences that agree below n have the same first n items.
+  pub upTo-equal : (f g : ℕ → S) (n : ℕ) → ((k : ℕ) → k < n → f k ≡ g k) → upTo f n ≡ upTo g n
+  unfolding upTo
+  upTo-equal f g zero h = refl
+  upTo-equal f g (suc n) h = ap₂ (λ l s. l ++ (s ∷ [])) (upTo-equal f g n (λ k l. h k (omega arith))) (h n (omega arith))
+
+pub map-upTo : {S T : Type 0} (g : S → T) (f : ℕ → S) (n : ℕ) → map g (upTo f n) ≡ upTo (λ k. g (f k)) n
+unfolding upTo
+map-upTo g f zero = refl
+map-upTo g f (suc n) = map-append g (upTo f n) (f n ∷ []) ∙ ap (λ l. l ++ (g (f n) ∷ [])) (map-upTo g f n)
