@@ -1,57 +1,41 @@
 -- Laws of the first number at which a test holds, by induction on the bound; and what a loop that tries 0, 1, .. in turn needs of it. Assumes nothing.
-use mathlib.Core.Path.{_≡_, refl, sym, _∙_}
-use mathlib.Core.Logic.{⊎-elim}
-use mathlib.Core.Bool.{Bool, true, false, cond, true≢false}
+use mathlib.Core.Path.{_≡_, sym, _∙_}
+use mathlib.Core.Logic.{_↔_, ⊎-elim}
+use mathlib.Core.Bool.{Bool, true, false, true≢false}
 use mathlib.Core.List.{List, _∷_}
 use Prim.Native.Nat.{ℕ, zero, suc, _+_, _≤_, _<_}
 use native.Mathlib.Nat.{eq-or-lt-of-le, le-of-suc-le-suc, not-suc-le-zero}
 use native.Mathlib.Omega.{arith}
-use borrow.Author.Tests.{lt-ltb, le-ltb, ltb-false}
+use lib.Dec.{ltb}
+use borrow.Author.Tests.{lt-ltb, le-ltb, ltb-true, ltb-false}
 use Rattle.refusal.specs.Table.{Row, refused, answer}
 use Rattle.refusal.specs.First.{first, firstSuch}
+use Rattle.refusal.proofs.Table.{cases}
 
 -- it is at most the bound
 pub first-le : (test : ℕ → Bool) (n : ℕ) → first test n ≤ n
 unfolding first
 first-le test zero = omega arith
-first-le test (suc n) = go (test 0) (first-le (λ k. test (suc k)) n)
-  where
-    go : (b : Bool) → first (λ k. test (suc k)) n ≤ n → cond b 0 (suc (first (λ k. test (suc k)) n)) ≤ suc n
-    go true h = omega arith
-    go false h = omega arith
+first-le test (suc n) = cases (test 0) (λ t. rw t (omega arith)) (λ t. rw t (omega (arith, first-le (λ k. test (suc k)) n)))
 
 -- below it the test fails
 pub first-before : (test : ℕ → Bool) (n k : ℕ) → k < first test n → test k ≡ false
 unfolding first
 first-before test zero k h = absurd (not-suc-le-zero h)
-first-before test (suc n) zero h = go (test 0) h
-  where
-    go : (b : Bool) → 0 < cond b 0 (suc (first (λ k. test (suc k)) n)) → b ≡ false
-    go true l = absurd (not-suc-le-zero l)
-    go false l = refl
-first-before test (suc n) (suc k) h = first-before (λ j. test (suc j)) n k (go (test 0) h)
-  where
-    go : (b : Bool) → suc k < cond b 0 (suc (first (λ j. test (suc j)) n)) → k < first (λ j. test (suc j)) n
-    go true l = absurd (not-suc-le-zero l)
-    go false l = le-of-suc-le-suc l
+first-before test (suc n) zero h = cases (test 0) (λ t. absurd (not-suc-le-zero (rw t at h))) (λ t. t)
+first-before test (suc n) (suc k) h =
+    cases (test 0) (λ t. absurd (not-suc-le-zero (rw t at h))) (λ t. first-before (λ j. test (suc j)) n k (le-of-suc-le-suc (rw t at h)))
 
 -- at it the test holds, if it is below the bound
 pub first-at : (test : ℕ → Bool) (n : ℕ) → first test n < n → test (first test n) ≡ true
 unfolding first
 first-at test zero h = absurd (not-suc-le-zero h)
-first-at test (suc n) h = go (test 0) refl h (first-at (λ k. test (suc k)) n)
-  where
-    m : ℕ
-    m = first (λ k. test (suc k)) n
-
-    go : (b : Bool) → test 0 ≡ b → cond b 0 (suc m) < suc n → (m < n → test (suc m) ≡ true) → test (cond b 0 (suc m)) ≡ true
-    go true e l t = e
-    go false e l t = t (le-of-suc-le-suc l)
+first-at test (suc n) h = cases (test 0) (λ t. rw t t) (λ t. rw t (first-at (λ k. test (suc k)) n (le-of-suc-le-suc (rw t at h))))
 
 module _ (test : ℕ → Bool) (n k : ℕ) (reached : k ≤ first test n) where
   -- a loop that reached k and finds the test there stops at the first such number
-  pub first-here : k < n → test k ≡ true → first test n ≡ k
-  first-here h t = ⊎-elim (λ e. sym e) (λ l. absurd (true≢false (sym t ∙ first-before test n k l))) (eq-or-lt-of-le reached)
+  pub first-here : test k ≡ true → first test n ≡ k
+  first-here t = ⊎-elim (λ e. sym e) (λ l. absurd (true≢false (sym t ∙ first-before test n k l))) (eq-or-lt-of-le reached)
 
   -- a loop that reached k and does not find the test there goes on
   pub first-on : k < n → test k ≡ false → k + 1 ≤ first test n
@@ -64,11 +48,14 @@ module _ (test : ℕ → Bool) (n k : ℕ) (reached : k ≤ first test n) where
 -- the row of the first such number: at the number it refuses with that place, and at the bound it leaves the answer to the rows behind
 module _ (number : ℕ) (test : ℕ → Bool) (n k : ℕ) (reached : k ≤ first test n) (rows : List Row) (x : ℕ) where
   pub firstSuch-here : k < n → test k ≡ true → answer (firstSuch number test n ∷ rows) x ≡ refused number k
-  firstSuch-here h t = rw (first-here test n k reached h t, lt-ltb k n h)
+  firstSuch-here h t = rw (first-here test n k reached t, lt-ltb k n h)
 
   pub firstSuch-end : n ≤ k → answer (firstSuch number test n ∷ rows) x ≡ answer rows x
   firstSuch-end h = rw (first-end test n k reached h, le-ltb n n (omega arith))
 
--- where that row does not apply, the test fails at every number below the bound
-pub firstSuch-none : (number : ℕ) (test : ℕ → Bool) (n : ℕ) → firstSuch number test n .applies ≡ false → (k : ℕ) → k < n → test k ≡ false
-firstSuch-none number test n h k l = first-before test n k (omega (arith, ltb-false (first test n) n h))
+-- that row does not apply exactly if the test fails at every number below the bound
+pub firstSuch-none : (number : ℕ) (test : ℕ → Bool) (n : ℕ) → (firstSuch number test n .applies ≡ false) ↔ ((k : ℕ) → k < n → test k ≡ false)
+firstSuch-none number test n = (
+  λ h k l. first-before test n k (omega (arith, ltb-false (first test n) n h)),
+  λ h. cases (ltb (first test n) n) (λ t. let l = ltb-true (first test n) n t in absurd (true≢false (sym (first-at test n l) ∙ h (first test n) l))) (λ t. t),
+)

@@ -1,16 +1,33 @@
 -- Laws of the rows about a call's arguments, each from the definition of its row. Assumes nothing.
-use mathlib.Core.Path.{_≡_}
-use mathlib.Core.Bool.{cond}
-use mathlib.Core.List.{List}
+use mathlib.Core.Path.{_≡_, refl}
+use mathlib.Core.Bool.{Bool, true, false, cond}
+use mathlib.Core.List.{List, [], _∷_}
 use Prim.Native.Nat.{ℕ, suc, _+_, _<_}
 use native.Mathlib.Numerals.{add-one}
 use lib.Dec.{eqb}
 use lib.ListN.{length, getD, drop}
 use lib.Seq.{drop-cons}
-use Rattle.refusal.specs.Rows.{countTrue}
+use borrow.Author.Tests.{not-false, eqb-true}
+use Rattle.refusal.specs.Table.{none, numbered}
+use Rattle.refusal.specs.Rows.{countTrue, wrong, row9, row10, argumentRows}
+use Rattle.refusal.proofs.Table.{none-cons}
+use Rattle.refusal.proofs.First.{firstSuch-none}
 
 -- the bytes 2 from an index on are those behind it, and one more where that byte is 2
 pub countTrue-drop : (bytes : List ℕ) (i : ℕ) → i < length bytes
     → countTrue (drop i bytes) ≡ cond (eqb (getD bytes i 0) 2) (suc (countTrue (drop (i + 1) bytes))) (countTrue (drop (i + 1) bytes))
 unfolding countTrue
 countTrue-drop bytes i h = rw (drop-cons bytes i 0, add-one)
+
+-- rows 9 and 10 have numbers of their own
+pub numbered-argumentRows : (candidate : Bool) (count : ℕ) (bytes : List ℕ) → numbered (argumentRows candidate count bytes) ≡ true
+unfolding argumentRows
+numbered-argumentRows candidate count bytes = refl
+
+-- where neither applies, the length is the atom count and no byte is wrong
+pub none-argumentRows : (candidate : Bool) (count : ℕ) (bytes : List ℕ) → none (argumentRows candidate count bytes) ≡ true
+    → (length bytes ≡ count) × ((i : ℕ) → i < length bytes → wrong candidate (getD bytes i 0) ≡ false)
+unfolding argumentRows
+none-argumentRows candidate count bytes h =
+    let t = none-cons (row9 count bytes) (row10 candidate bytes ∷ []) h in
+    (eqb-true _ _ (not-false _ (t .0)), firstSuch-none 10 _ _ .0 (none-cons (row10 candidate bytes) [] (t .1) .0))

@@ -1,23 +1,12 @@
--- The rows of the refusal table that are about a call's arguments, and the limits that they name.
+-- The rows of the refusal table that are about a call's arguments.
 use mathlib.Core.Bool.{Bool, true, false, cond, not, _&&_, _||_}
 use mathlib.Core.List.{List, [], _∷_}
 use Prim.Native.Nat.{ℕ, suc}
 use lib.Dec.{eqb, ltb}
 use lib.ListN.{getD, length}
+use Rattle.refusal.specs.Limits.{mostB}
 use Rattle.refusal.specs.Table.{Row}
 use Rattle.refusal.specs.First.{firstSuch}
-
--- the most atoms that are true in a candidate
-abbrev pub mostTrue : ℕ
-mostTrue = 16
-
--- the largest A of a theory that is listed
-abbrev pub mostListed : ℕ
-mostListed = 12
-
--- the largest B
-abbrev pub mostB : ℕ
-mostB = 3072
 
 -- how many bytes are 2
 unfoldable pub countTrue : List ℕ → ℕ
@@ -28,9 +17,9 @@ countTrue (byte ∷ bytes) = cond (eqb byte 2) (suc (countTrue bytes)) (countTru
 abbrev pub wrong : Bool → ℕ → Bool
 wrong candidate byte = ltb 2 byte || (candidate && eqb byte 1)
 
--- row 8: an output buffer of this length is shorter than needed; its place is the bytes needed
+-- row 8: the output buffer's room is shorter than needed; its place is the bytes needed
 abbrev pub row8 : ℕ → ℕ → Row
-row8 needed length = record { number = 8; applies = ltb length needed; place = needed }
+row8 needed room = record { number = 8; applies = ltb room needed; place = needed }
 
 -- row 9: the interpretation's length is not the atom count; its place is the count wanted
 abbrev pub row9 : ℕ → List ℕ → Row
@@ -42,7 +31,7 @@ row10 candidate bytes = firstSuch 10 (λ i. wrong candidate (getD bytes i 0)) (l
 
 -- row 11: a number of atoms is over its limit; its place is that number
 abbrev pub row11 : ℕ → ℕ → Row
-row11 limit atoms = record { number = 11; applies = ltb limit atoms; place = atoms }
+row11 atoms limit = record { number = 11; applies = ltb limit atoms; place = atoms }
 
 -- row 14: B would exceed its limit; its place is B
 abbrev pub row14 : ℕ → Row

@@ -3,6 +3,13 @@ ghost use mathlib.Core.Path.{_≡_};
 ghost use Rattle.refusal.specs.Table.{refused, accepted, answer};
 ghost use Rattle.refusal.specs.Rows.{wrong, argumentRows, readingRows, candidateRows, countTrue};
 
+// The most atoms that are true in a candidate, the largest A of a theory that is listed, and the largest B.
+pub const MOST_TRUE: usize = 16;
+
+pub const MOST_LISTED: usize = 12;
+
+pub const MOST_B: usize = 3072;
+
 // A refusal number (0 when accepted), a place and a result.
 #[repr(C)]
 pub struct Answer {
@@ -54,12 +61,12 @@ fn argument(bytes: &[u8], count: usize, candidate: bool) -> Answer
     if bytes.len() != count {
         return refuse(9, count);
     }
-    let mut i = 0;
-    while i < bytes.len() {
-        if is_wrong(bytes[i], candidate) {
-            return refuse(10, i);
+    let mut place = 0;
+    while place < bytes.len() {
+        if is_wrong(bytes[place], candidate) {
+            return refuse(10, place);
         }
-        i += 1;
+        place += 1;
     }
     accept(0)
 }

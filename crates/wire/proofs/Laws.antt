@@ -1,11 +1,10 @@
 -- Laws of numbers in bytes, by linear arithmetic, and of `over`, by cutting a list where the written part ends. Assumes nothing.
-use mathlib.Core.Path.{_≡_, refl, sym, ap, ap₂, _∙_}
+use mathlib.Core.Path.{_≡_, refl, ap, ap₂, _∙_}
 use mathlib.Core.List.{List, [], _∷_, _++_, append-assoc, append-nil}
-use Prim.Native.Nat.{ℕ, suc, _+_, _-_, _*_, _/_, _%_, _≤_, _<_}
-use native.Mathlib.Numerals.{add-one}
+use Prim.Native.Nat.{ℕ, _+_, _-_, _*_, _/_, _%_, _≤_, _<_}
 use native.Mathlib.Omega.{arith}
-use lib.ListN.{length, getD, take, drop, set, length-append, length-drop, length-take}
-use lib.Seq.{take-suc, take-length, drop-length, drop-cons, set-at, append-snoc, length-take-le, take-append-seam, drop-append-seam, drop-drop, getD-append-add, getD-drop}
+use lib.ListN.{length, getD, take, drop, length-append, length-drop, length-take}
+use lib.Seq.{take-length, drop-length, take-append-seam, drop-append-seam, drop-drop, getD-append-add, getD-drop}
 use borrow.Rule.Slice.PartMut.{putMid}
 use Rattle.wire.specs.Wire.{u16At, u32At, u16Bytes, u32Bytes, Bytes, over}
 
@@ -89,19 +88,19 @@ module _ (done rest : List ℕ) where
   given-back : (back : List ℕ) → putMid (length done) (length (done ++ rest) - length done) (done ++ rest) back ≡ done ++ back
   given-back back = simp (left, drop-append-seam, take-append-seam, drop-length, append-nil)
 
-module _ {done old out : List ℕ} {at : ℕ} (w : Written done old out at) (more : List ℕ) (fits : length done + length more ≤ length old) where
+module _ {done old out : List ℕ} {at : ℕ} (w : Written done old out at) where
   -- the rest that is lent has room for what fits
-  pub turn-room : length more ≤ length (take (length out - at) (drop at out))
-  turn-room = simp (length-take, length-drop) (omega arith)
+  pub turn-room : {n : ℕ} → length done + n ≤ length old → n ≤ length (take (length out - at) (drop at out))
+  turn-room fits = simp (length-take, length-drop) (omega arith)
 
   -- one writer's turn: `more` is written over the rest that it is lent
-  pub turn : {n : ℕ} {back : List ℕ} → n ≡ length more → back ≡ over more (take (length out - at) (drop at out))
+  pub turn : (more : List ℕ) → length done + length more ≤ length old → {n : ℕ} {back : List ℕ} → n ≡ length more → back ≡ over more (take (length out - at) (drop at out))
       → Written (done ++ more) old (putMid at (length out - at) out back) (at + n)
-  turn {back = back} e b =
+  turn more fits {back = back} e b =
+      let rest : List ℕ = drop (length done) old in
+      let b′ : back ≡ over more rest = rw (w .bytes, w .end, lent done rest) at b in
       let whole : putMid at (length out - at) out back ≡ over (done ++ more) old
-      = ap₂ (λ (n : ℕ) (l : List ℕ). putMid n (length l - n) l back) (w .end) (w .bytes) ∙ given-back done (drop (length done) old) back
-      ∙ ap (λ (l : List ℕ). done ++ l) (b ∙ ap₂ (λ (n : ℕ) (l : List ℕ). over more (take (length l - n) (drop n l))) (w .end) (w .bytes) ∙ ap (over more) (lent done (drop (length done) old)))
-      ∙ simp (drop-drop, length-append, append-assoc) in
+      = rw (w .bytes, w .end, given-back done rest back, b′) (simp (drop-drop, length-append, append-assoc)) in
       record {
         bytes = whole;
         end = rw length-append (omega arith);

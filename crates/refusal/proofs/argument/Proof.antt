@@ -1,33 +1,22 @@
+-- `argument` gives rows 9 and 10: it tries the bytes from the first on, and before each turn it has not passed the place of row 10. Assumes nothing.
 use mathlib.Core.Path.{_≡_, sym, _∙_}
-use mathlib.Core.Bool.{Bool}
-use mathlib.Core.List.{List, [], _∷_}
-use Prim.Native.Nat.{ℕ, _-_, _≤_}
-use native.Mathlib.Omega.{arith}
-use lib.ListN.{length, getD}
+use mathlib.Core.List.{[], _∷_}
+use Prim.Native.Nat.{_-_, _≤_}
+use lib.ListN.{length}
 use denote.Ref.{now}
 use borrow.Author.Needs.{needs}
 use borrow.Author.Tests.{eq-eqb, ne-eqb}
 use Rattle.refusal.specs.Table.{answer}
-use Rattle.refusal.specs.First.{first}
-use Rattle.refusal.specs.Rows.{wrong, row10, argumentRows}
-use Rattle.refusal.proofs.First.{first-le, first-on, firstSuch-here, firstSuch-end}
+use Rattle.refusal.specs.Rows.{row10, argumentRows}
+use Rattle.refusal.proofs.First.{first-on, firstSuch-here, firstSuch-end}
 use Rattle.refusal.proofs.argument.Statement.{statement}
 use Rattle.refusal.proofs.argument.Tie as tie
-use Rattle.refusal.proofs.argument.Reads as reads
-use Rattle.refusal.proofs.argument.Lts as lts
-use Rattle.refusal.proofs.accept.Reads as accept-reads
-use Rattle.refusal.proofs.is_wrong.Reads as is-wrong-reads
-use Rattle.refusal.proofs.refuse.Reads as refuse-reads
-
--- whether the byte at an index is wrong
-abbrev wrongAt : Bool → List ℕ → ℕ → Bool
-wrongAt candidate bytes i = wrong candidate (getD bytes i 0)
 
 abbrev Inv-loop : tie.InvT-loop
-Inv-loop bytes count candidate i₀ i = i ≤ first (wrongAt candidate bytes) (length bytes)
+Inv-loop bytes count candidate place₀ place = place ≤ row10 candidate bytes .place
 
 abbrev μ-loop : tie.MeasureT-loop
-μ-loop bytes count candidate i₀ i = length bytes - i
+μ-loop bytes count candidate place₀ place = length bytes - place
 
 refuse-requires : tie.Need-refuse-requires Inv-loop μ-loop
 refuse-requires c κs = search needs
@@ -60,11 +49,11 @@ returns-2 : tie.Need-returns-2 Inv-loop μ-loop
 returns-2 c =
     let turn = c .before .before .before .before in
     let loop = turn .before in
-    let start = loop .before .before .before in
-    c .refuse2 .ensures ∙ sym (past9 loop ∙ firstSuch-here 10 (wrongAt (start .args .candidate) (now (start .args .bytes))) (length (now (start .args .bytes))) (loop .loop .i) (loop .loop .inv) [] 0 (turn .loop-test .taken) (sym (c .before .before .is-wrong .ensures) ∙ c .before .if2 .taken))
+    let found = sym (c .before .before .is-wrong .ensures) ∙ c .before .if2 .taken in
+    c .refuse2 .ensures ∙ sym (past9 loop ∙ firstSuch-here 10 _ _ _ (loop .loop .inv) [] 0 (turn .loop-test .taken) found)
 
-add-i : tie.Need-add-i Inv-loop μ-loop
-add-i c = search needs
+add-place : tie.Need-add-place Inv-loop μ-loop
+add-place c = search needs
 
 loop-less : tie.Need-loop-less Inv-loop μ-loop
 loop-less c = search needs
@@ -72,9 +61,7 @@ loop-less c = search needs
 loop-again : tie.Need-loop-again Inv-loop μ-loop
 loop-again c =
     let turn = c .before .before .before in
-    let loop = turn .before in
-    let start = loop .before .before .before in
-    first-on (wrongAt (start .args .candidate) (now (start .args .bytes))) (length (now (start .args .bytes))) (loop .loop .i) (loop .loop .inv) (turn .loop-test .taken) (sym (c .before .is-wrong .ensures) ∙ c .if2 .left)
+    first-on _ _ _ (turn .before .loop .inv) (turn .loop-test .taken) (sym (c .before .is-wrong .ensures) ∙ c .if2 .left)
 
 accept-requires : tie.Need-accept-requires Inv-loop μ-loop
 accept-requires c κs = search needs
@@ -82,8 +69,7 @@ accept-requires c κs = search needs
 returns-3 : tie.Need-returns-3 Inv-loop μ-loop
 returns-3 c =
     let loop = c .before .before in
-    let start = loop .before .before .before in
-    c .accept .ensures ∙ sym (past9 loop ∙ firstSuch-end 10 (wrongAt (start .args .candidate) (now (start .args .bytes))) (length (now (start .args .bytes))) (loop .loop .i) (loop .loop .inv) [] 0 (c .before .loop-test .left))
+    c .accept .ensures ∙ sym (past9 loop ∙ firstSuch-end 10 _ _ _ (loop .loop .inv) [] 0 (c .before .loop-test .left))
 
 pub argument-spec : {M : Type 1} → statement M
 argument-spec =
@@ -98,7 +84,7 @@ argument-spec =
     is-wrong-requires
     refuse-requires-2
     returns-2
-    add-i
+    add-place
     loop-less
     loop-again
     accept-requires

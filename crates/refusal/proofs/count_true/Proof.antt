@@ -1,12 +1,9 @@
-use mathlib.Core.Path.{_≡_, refl, ap, _∙_}
+-- `count_true` counts the bytes 2: those counted and those from index i on are all of them. Assumes nothing.
+use mathlib.Core.Path.{_≡_}
 use mathlib.Core.Logic.{⊎-elim}
-use Prim.Native.Nat.{ℕ, suc, _+_, _-_, _≤_}
+use Prim.Native.Nat.{_+_, _-_, _≤_}
 use native.Mathlib.Omega.{arith}
-use native.Mathlib.Numerals.{add-one}
-use mathlib.Core.Bool.{cond}
-use lib.Dec.{eqb}
 use lib.ListN.{length, drop, drop-of-length-le}
-use lib.Seq.{drop-cons}
 use denote.Ref.{now}
 use borrow.Author.Needs.{needs}
 use borrow.Author.Tests.{eq-eqb, ne-eqb}
@@ -14,8 +11,6 @@ use Rattle.refusal.specs.Rows.{countTrue}
 use Rattle.refusal.proofs.Rows.{countTrue-drop}
 use Rattle.refusal.proofs.count_true.Statement.{statement}
 use Rattle.refusal.proofs.count_true.Tie as tie
-use Rattle.refusal.proofs.count_true.Reads as reads
-use Rattle.refusal.proofs.count_true.Lts as lts
 
 abbrev Inv-loop : tie.InvT-loop
 Inv-loop bytes count₀ i₀ count i = (count + countTrue (drop i bytes) ≡ countTrue bytes) × (count ≤ i) × (i ≤ length bytes)
@@ -42,12 +37,13 @@ loop-again : tie.Need-loop-again Inv-loop μ-loop
 loop-again c =
     let loop = c .before .before .before in
     let e = countTrue-drop (now (loop .before .args .bytes)) (loop .loop .i) (search needs) in
-    ⊎-elim (λ w. let t = rw (eq-eqb _ 2 (w .0 .taken)) at e in omega arith) (λ w. let t = rw (ne-eqb _ 2 (w .0 .left)) at e in omega arith) (c .if1 .came)
+    ⊎-elim (λ w. omega (arith, rw (eq-eqb _ 2 (w .0 .taken)) at e)) (λ w. omega (arith, rw (ne-eqb _ 2 (w .0 .left)) at e)) (c .if1 .came)
 
 returns : tie.Need-returns Inv-loop μ-loop
 unfolding countTrue
 returns c =
-    let e : countTrue (drop (c .before .loop .i) (now (c .before .before .args .bytes))) ≡ 0 = rw (drop-of-length-le (now (c .before .before .args .bytes)) (c .loop-test .left)) in
+    let bytes = now (c .before .before .args .bytes) in
+    let e : countTrue (drop (c .before .loop .i) bytes) ≡ 0 = rw (drop-of-length-le bytes (c .loop-test .left)) in
     omega arith
 
 pub count-true-spec : {M : Type 1} → statement M

@@ -1,4 +1,4 @@
--- The test on a byte, by its three ways out. Assumes nothing.
+-- `is_wrong` gives the test on a byte: its three ways out are those of the definition. Assumes nothing.
 use borrow.Author.Tests.{lt-ltb, le-ltb}
 use Rattle.refusal.proofs.is_wrong.Statement.{statement}
 use Rattle.refusal.proofs.is_wrong.Tie as tie

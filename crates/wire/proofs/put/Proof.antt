@@ -1,4 +1,4 @@
--- `put` copies one byte a turn: before each, the first `i` of `out` are those of `bytes`, and the rest is as it was. Assumes nothing.
+-- `put` writes the bytes over the start: before each turn the first i bytes of `out` are those of `bytes`, and the rest is as it was. Assumes nothing.
 use mathlib.Core.Path.{_≡_, refl, sym}
 use mathlib.Core.List.{List, _++_}
 use Prim.Native.Nat.{ℕ, suc, _+_, _-_, _≤_, _<_}
