@@ -1,11 +1,11 @@
 -- Formulas, their value under a reading, and what it is to satisfy a list of them.
 use mathlib.Core.Bool.{Bool, true, _&&_}
-use mathlib.Core.List.{List, [], _∷_}
+use mathlib.Core.List.{List, [], _∷_, map}
 use Prim.Native.Nat.{ℕ, _<_}
 use lib.ListN.{getD}
 use Rattle.logic.specs.declared.Value.{Value}
 use Rattle.logic.specs.declared.Value.the-variants.{Neither, Both}
-use Rattle.logic.specs.Value.{smaller, larger, negation, implication, trueHere}
+use Rattle.logic.specs.Value.{ofByte, smaller, larger, negation, implication, trueHere}
 
 -- False, true, an atom by its number, not, and, or, left implies right.
 pub data Formula : Type 0 where
@@ -17,6 +17,10 @@ pub data Formula : Type 0 where
 -- A reading, or interpretation: a value for each atom, atom 0 first.
 abbrev pub Reading : Type 0
 Reading = List Value
+
+-- The reading of a list of bytes.
+abbrev pub readingOf : List ℕ → Reading
+readingOf bytes = map ofByte bytes
 
 -- The value of an atom; 0 past the reading's end.
 abbrev pub valueOf : Reading → ℕ → Value

@@ -71,16 +71,19 @@ programOf p = record { atoms = atomCount p; size = sizeOf p; rules = upTo (ruleI
 
 -- The literals of a rule: heads, then positives, then negatives.
 abbrev pub literals : Rule → List ℕ
-literals r = r .heads ++ r .positives ++ r .negatives
+literals r = r .heads ++ (r .positives ++ r .negatives)
+
+-- The ten bytes of a rule: three counts, a zero byte, three slots.
+abbrev pub tenBytes : (heads positives negatives : ℕ) → (first second third : ℕ) → List ℕ
+tenBytes h p n a b c = h ∷ p ∷ n ∷ 0 ∷ (u16Bytes a ++ (u16Bytes b ++ u16Bytes c))
 
 -- Slot i of a rule; 0 where it is unused.
-abbrev pub slot : Rule → ℕ → List ℕ
-slot r i = u16Bytes (getD (literals r) i 0)
+abbrev pub slot : Rule → ℕ → ℕ
+slot r i = getD (literals r) i 0
 
--- The ten bytes of a rule.
+-- A rule as its ten bytes.
 unfoldable pub ruleBytes : Rule → List ℕ
-ruleBytes r =
-    length (r .heads) ∷ length (r .positives) ∷ length (r .negatives) ∷ 0 ∷ (slot r 0 ++ slot r 1 ++ slot r 2)
+ruleBytes r = tenBytes (length (r .heads)) (length (r .positives)) (length (r .negatives)) (slot r 0) (slot r 1) (slot r 2)
 
 -- The bytes of a list of rules.
 unfoldable pub rulesBytes : List Rule → List ℕ
@@ -89,7 +92,7 @@ rulesBytes (r ∷ rs) = ruleBytes r ++ rulesBytes rs
 
 -- The header of an image of K rules.
 unfoldable pub header : (A B K : ℕ) → List ℕ
-header A B K = u16Bytes A ++ u16Bytes B ++ u16Bytes K ++ u16Bytes 0 ++ u32Bytes 16 ++ u32Bytes (imageLength K)
+header A B K = u16Bytes A ++ (u16Bytes B ++ (u16Bytes K ++ (u16Bytes 0 ++ (u32Bytes 16 ++ u32Bytes (imageLength K)))))
 
 -- The image of a program.
 unfoldable pub imageOf : Program → List ℕ

@@ -3,12 +3,20 @@ ghost use mathlib.Core.Path.{_≡_};
 ghost use Rattle.refusal.specs.Table.{refused, accepted, answer};
 ghost use Rattle.refusal.specs.Rows.{wrong, argumentRows, readingRows, candidateRows, countTrue};
 
-// The most atoms that are true in a candidate, the largest A of a theory that is listed, and the largest B.
+// The limits of document 01, as specs/Limits.antt names them.
+pub const MOST_ATOMS: usize = 1024;
+
+pub const MOST_NODES: usize = 1024;
+
+pub const MOST_ROOTS: usize = 256;
+
+pub const MOST_B: usize = 3072;
+
+pub const MOST_RULES: usize = 6400;
+
 pub const MOST_TRUE: usize = 16;
 
 pub const MOST_LISTED: usize = 12;
-
-pub const MOST_B: usize = 3072;
 
 // A refusal number (0 when accepted), a place and a result.
 #[repr(C)]
