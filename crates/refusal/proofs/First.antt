@@ -9,7 +9,7 @@ use native.Mathlib.Omega.{arith}
 use lib.Dec.{ltb}
 use borrow.Author.Tests.{lt-ltb, le-ltb, ltb-true, ltb-false}
 use Rattle.refusal.specs.Table.{Row, refused, answer}
-use Rattle.refusal.specs.First.{first, firstSuch}
+use Rattle.refusal.specs.First.{first, firstSuch, FirstAt}
 use Rattle.refusal.proofs.Table.{cases}
 
 -- it is at most the bound
@@ -59,3 +59,9 @@ firstSuch-none number test n = (
   λ h k l. first-before test n k (omega (arith, ltb-false (first test n) n h)),
   λ h. cases (ltb (first test n) n) (λ t. let l = ltb-true (first test n) n t in absurd (true≢false (sym (first-at test n l) ∙ h (first test n) l))) (λ t. t),
 )
+
+-- where it applies, its place is the first such number
+pub firstSuch-first : (number : ℕ) (test : ℕ → Bool) (n : ℕ) → firstSuch number test n .applies ≡ true → FirstAt test n (firstSuch number test n .place)
+firstSuch-first number test n h =
+    let l = ltb-true (first test n) n h in
+    record { below = l; holds = first-at test n l; not-before = first-before test n }

@@ -1,6 +1,7 @@
 -- The first of the numbers below a bound at which a test holds, and the row whose place that is.
-use mathlib.Core.Bool.{Bool, cond}
-use Prim.Native.Nat.{ℕ, zero, suc}
+use mathlib.Core.Path.{_≡_}
+use mathlib.Core.Bool.{Bool, true, false, cond}
+use Prim.Native.Nat.{ℕ, zero, suc, _<_}
 use lib.Dec.{ltb}
 use Rattle.refusal.specs.Table.{Row}
 
@@ -12,3 +13,9 @@ first test (suc n) = cond (test 0) 0 (suc (first (λ k. test (suc k)) n))
 -- the row with this number that applies where the test holds at some number below n; its place is the first such
 abbrev pub firstSuch : ℕ → (ℕ → Bool) → ℕ → Row
 firstSuch number test n = record { number = number; applies = ltb (first test n) n; place = first test n }
+
+-- k is the first number below n at which the test holds
+pub record FirstAt (test : ℕ → Bool) (n k : ℕ) : Type 0 where
+  pub below : k < n
+  pub holds : test k ≡ true
+  pub not-before : (j : ℕ) → j < k → test j ≡ false
