@@ -1,7 +1,7 @@
 -- The program image: where its numbers stand, the program that it is, and the image of a program.
-use mathlib.Core.Bool.{Bool, true, cond, _&&_}
+use mathlib.Core.Bool.{Bool, cond, _&&_}
 use mathlib.Core.List.{List, [], _∷_, _++_}
-use Prim.Native.Nat.{ℕ, suc, _+_, _*_}
+use Prim.Native.Nat.{ℕ, _+_, _*_}
 use lib.Dec.{eqb, leb, ltb}
 use lib.ListN.{getD, length, take, drop}
 use Rattle.wire.specs.Wire.{u16At, u16Bytes, u32Bytes}
@@ -39,6 +39,10 @@ positivesIn s k = getD s (k * 10 + 1) 0
 abbrev pub negativesIn : List ℕ → ℕ → ℕ
 negativesIn s k = getD s (k * 10 + 2) 0
 
+-- Its number of literals.
+abbrev pub usedIn : List ℕ → ℕ → ℕ
+usedIn s k = headsIn s k + positivesIn s k + negativesIn s k
+
 -- Its three slots.
 abbrev pub slotsIn : List ℕ → ℕ → List ℕ
 slotsIn s k = u16At s (k * 10 + 4) ∷ u16At s (k * 10 + 6) ∷ u16At s (k * 10 + 8) ∷ []
@@ -51,17 +55,17 @@ ruleOf h p n slots = record { heads = take h slots; positives = take p (drop h s
 abbrev pub ruleIn : List ℕ → ℕ → Rule
 ruleIn s k = ruleOf (headsIn s k) (positivesIn s k) (negativesIn s k) (slotsIn s k)
 
--- The first `used` slots are below B, and the others 0.
-abbrev pub slotsKeep : (B used : ℕ) → List ℕ → Bool
-slotsKeep B used [] = true
-slotsKeep B ℕ.zero (a ∷ slots) = eqb a 0 && slotsKeep B 0 slots
-slotsKeep B (suc used) (a ∷ slots) = ltb a B && slotsKeep B used slots
+-- Slot i of a rule of so many literals holds an atom below B, and 0 where it is unused.
+abbrev pub slotKeeps : (B used i atom : ℕ) → Bool
+slotKeeps B used i a = cond (ltb i used) (ltb a B) (eqb a 0)
 
 -- Rule k has at most three literals, a zero byte that is 0, atoms below B, and 0 in its unused slots.
 abbrev pub ruleKeeps : (B : ℕ) → List ℕ → ℕ → Bool
 ruleKeeps B s k =
-    leb (headsIn s k + positivesIn s k + negativesIn s k) 3
-    && (eqb (getD s (k * 10 + 3) 0) 0 && slotsKeep B (headsIn s k + positivesIn s k + negativesIn s k) (slotsIn s k))
+    leb (usedIn s k) 3
+    && (eqb (getD s (k * 10 + 3) 0) 0
+    && (slotKeeps B (usedIn s k) 0 (u16At s (k * 10 + 4))
+    && (slotKeeps B (usedIn s k) 1 (u16At s (k * 10 + 6)) && slotKeeps B (usedIn s k) 2 (u16At s (k * 10 + 8)))))
 
 -- The program of an image.
 unfoldable pub programOf : List ℕ → Program
@@ -73,17 +77,13 @@ programOf p = record { atoms = atomCount p; size = sizeOf p; rules = upTo (ruleI
 abbrev pub literals : Rule → List ℕ
 literals r = r .heads ++ (r .positives ++ r .negatives)
 
--- The ten bytes of a rule: three counts, a zero byte, three slots.
-abbrev pub tenBytes : (heads positives negatives : ℕ) → (first second third : ℕ) → List ℕ
-tenBytes h p n a b c = h ∷ p ∷ n ∷ 0 ∷ (u16Bytes a ++ (u16Bytes b ++ u16Bytes c))
-
--- Slot i of a rule; 0 where it is unused.
-abbrev pub slot : Rule → ℕ → ℕ
-slot r i = getD (literals r) i 0
+-- The ten bytes of a rule: three counts, a zero byte, and three slots, 0 where the list of them ends.
+abbrev pub tenBytes : (heads positives negatives : ℕ) → (slots : List ℕ) → List ℕ
+tenBytes h p n slots = h ∷ p ∷ n ∷ 0 ∷ (u16Bytes (getD slots 0 0) ++ (u16Bytes (getD slots 1 0) ++ u16Bytes (getD slots 2 0)))
 
 -- A rule as its ten bytes.
 unfoldable pub ruleBytes : Rule → List ℕ
-ruleBytes r = tenBytes (length (r .heads)) (length (r .positives)) (length (r .negatives)) (slot r 0) (slot r 1) (slot r 2)
+ruleBytes r = tenBytes (length (r .heads)) (length (r .positives)) (length (r .negatives)) (literals r)
 
 -- The bytes of a list of rules.
 unfoldable pub rulesBytes : List Rule → List ℕ

@@ -2,3 +2,4 @@ pub mod Rule
 pub mod Program
 pub mod Image
 pub mod Rows
+pub mod Writable
