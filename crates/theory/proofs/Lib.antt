@@ -1,2 +1,5 @@
 pub mod Books
 pub mod BenchCases
+pub mod Images
+pub mod Rows
+pub mod Accepted

@@ -1,6 +1,6 @@
 -- Rows 1 to 7 of the refusal table: what a theory image is refused for.
 use mathlib.Core.Bool.{Bool, not, _||_}
-use mathlib.Core.List.{List, [], _∷_}
+use mathlib.Core.List.{List, [], _∷_, _++_}
 use Prim.Native.Nat.{ℕ}
 use lib.Dec.{eqb, ltb}
 use lib.ListN.{length}
@@ -46,6 +46,10 @@ row6 t = firstSuch 6 (λ k. not (nodeKeeps (atomCount t) (nodeSection t) k)) (no
 abbrev pub row7 : List ℕ → Row
 row7 t = firstSuch 7 (λ i. not (ltb (rootIn (rootSection t) i) (nodeCount t))) (rootCount t)
 
+-- The rows on the header.
+unfoldable pub headerRows : List ℕ → List Row
+headerRows t = row1 t ∷ row2 t ∷ row3 t ∷ row4 t ∷ row5 t ∷ []
+
 -- The rows of a theory image, in the order tested.
 unfoldable pub theoryRows : List ℕ → List Row
-theoryRows t = row1 t ∷ row2 t ∷ row3 t ∷ row4 t ∷ row5 t ∷ row6 t ∷ row7 t ∷ []
+theoryRows t = headerRows t ++ row6 t ∷ row7 t ∷ []

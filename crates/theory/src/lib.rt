@@ -1,1 +1,174 @@
-//! The theory image: a rule book as bytes.
+//! The theory image: whether it is one, and what its nodes and roots are worth under a reading.
+use refusal::Answer;
+ghost use mathlib.Core.Path.{_≡_};
+ghost use mathlib.Core.Bool.{not, _||_};
+ghost use Prim.Native.Nat.{_+_, _*_, _≤_, _<_};
+ghost use lib.Dec.{eqb, ltb};
+ghost use lib.ListN.{length};
+ghost use Rattle.refusal.specs.Table.{answer};
+ghost use Rattle.refusal.specs.First.{first};
+ghost use Rattle.refusal.specs.Limits.{mostAtoms, mostNodes, mostRoots};
+ghost use Rattle.wire.specs.Wire.{u32At};
+ghost use Rattle.theory.specs.Book.{leftLimit, rightLimit};
+ghost use Rattle.theory.specs.Image.{atomCount, nodeCount, rootCount, kindOf, nodeKeeps, rootIn};
+ghost use Rattle.theory.specs.Rows.{headerRows, theoryRows};
+
+// A of the header.
+pub fn atoms(theory: &[u8]) -> usize
+    requires { ⌜ 16 ≤ length (now theory) ⌝ }
+    ensures { λ r. ⌜ (r ≡ atomCount (now (theory .entry))) × (r < 65536) ⌝ }
+{
+    wire::u16_at(theory, 0)
+}
+
+// N of the header.
+pub fn nodes(theory: &[u8]) -> usize
+    requires { ⌜ 16 ≤ length (now theory) ⌝ }
+    ensures { λ r. ⌜ (r ≡ nodeCount (now (theory .entry))) × (r < 65536) ⌝ }
+{
+    wire::u16_at(theory, 2)
+}
+
+// R of the header.
+pub fn roots(theory: &[u8]) -> usize
+    requires { ⌜ 16 ≤ length (now theory) ⌝ }
+    ensures { λ r. ⌜ (r ≡ rootCount (now (theory .entry))) × (r < 65536) ⌝ }
+{
+    wire::u16_at(theory, 4)
+}
+
+// What left has to be below, in node k of a theory with so many atoms.
+fn left_limit(kind: u8, atoms: usize, k: usize) -> usize
+    ensures { λ r. ⌜ r ≡ leftLimit atoms k (kindOf kind) ⌝ }
+{
+    match kind {
+        0 | 1 => 1,
+        2 => atoms,
+        _ => k,
+    }
+}
+
+// What right has to be below, in node k.
+fn right_limit(kind: u8, k: usize) -> usize
+    ensures { λ r. ⌜ r ≡ rightLimit k (kindOf kind) ⌝ }
+{
+    match kind {
+        0 | 1 | 2 | 3 => 1,
+        _ => k,
+    }
+}
+
+// Whether node k has a kind and a zero byte, and keeps to its kind's row.
+fn keeps(nodes: &[u8], k: usize, atoms: usize) -> bool
+    requires { ⌜ k * 6 + 6 ≤ length (now nodes) ⌝ }
+    ensures { λ r. ⌜ r ≡ nodeKeeps atoms (now (nodes .entry)) k ⌝ }
+{
+    let i = k * 6;
+    let kind = nodes[i];
+    if 7 <= kind {
+        return false;
+    }
+    if nodes[i + 1] != 0 {
+        return false;
+    }
+    if left_limit(kind, atoms, k) <= wire::u16_at(nodes, i + 2) {
+        return false;
+    }
+    wire::u16_at(nodes, i + 4) < right_limit(kind, k)
+}
+
+// The first node that does not keep to its row, and the count where each does.
+fn first_bad_node(nodes: &[u8], atoms: usize, count: usize) -> usize
+    requires { ⌜ count * 6 ≤ length (now nodes) ⌝ }
+    ensures { λ r. ⌜ r ≡ first (λ k. not (nodeKeeps atoms (now (nodes .entry)) k)) count ⌝ }
+{
+    let mut k = 0;
+    while k < count {
+        if !keeps(nodes, k, atoms) {
+            return k;
+        }
+        k += 1;
+    }
+    count
+}
+
+// The index of the first root that is not below the number of nodes, and the count where each is.
+fn first_bad_root(roots: &[u8], nodes: usize, count: usize) -> usize
+    requires { ⌜ count * 2 ≤ length (now roots) ⌝ }
+    ensures { λ r. ⌜ r ≡ first (λ i. not (ltb (rootIn (now (roots .entry)) i) nodes)) count ⌝ }
+{
+    let mut i = 0;
+    while i < count {
+        if nodes <= wire::u16_at(roots, i * 2) {
+            return i;
+        }
+        i += 1;
+    }
+    count
+}
+
+// Rows 1 to 5.
+fn header(theory: &[u8]) -> Answer
+    ensures { λ r. ⌜ r ≡ answer (headerRows (now (theory .entry))) 0 ⌝ }
+{
+    if theory.len() < 16 {
+        return refusal::refuse(1, 0);
+    }
+    let node_count = nodes(theory);
+    let root_count = roots(theory);
+    if over_limits(atoms(theory), node_count, root_count) {
+        return refusal::refuse(2, 0);
+    }
+    if wire::u16_at(theory, 6) != 0 {
+        return refusal::refuse(3, 0);
+    }
+    let start = 16 + node_count * 6;
+    if offsets_differ(theory, start) {
+        return refusal::refuse(4, 0);
+    }
+    let wanted = start + root_count * 2;
+    if theory.len() != wanted {
+        return refusal::refuse(5, wanted);
+    }
+    refusal::accept(0)
+}
+
+// Whether A, N or R is over its limit.
+fn over_limits(atoms: usize, nodes: usize, roots: usize) -> bool
+    ensures { λ r. ⌜ r ≡ (ltb mostAtoms atoms || (ltb mostNodes nodes || ltb mostRoots roots)) ⌝ }
+{
+    if refusal::MOST_ATOMS < atoms {
+        return true;
+    }
+    refusal::MOST_NODES < nodes || refusal::MOST_ROOTS < roots
+}
+
+// Whether an offset differs, where the roots are to start at `start`.
+fn offsets_differ(theory: &[u8], start: usize) -> bool
+    requires { ⌜ 16 ≤ length (now theory) ⌝ }
+    ensures { λ r. ⌜ r ≡ (not (eqb (u32At (now (theory .entry)) 8) 16) || not (eqb (u32At (now (theory .entry)) 12) start)) ⌝ }
+{
+    wire::u32_at(theory, 8) != 16 || wire::u32_at(theory, 12) != start
+}
+
+// Rows 1 to 7: the header, then the nodes, then the roots.
+pub fn check(theory: &[u8]) -> Answer
+    ensures { λ r. ⌜ r ≡ answer (theoryRows (now (theory .entry))) 1 ⌝ }
+{
+    let answer = header(theory);
+    if answer.number != 0 {
+        return answer;
+    }
+    let node_count = nodes(theory);
+    let node = first_bad_node(&theory[16..], atoms(theory), node_count);
+    if node < node_count {
+        return refusal::refuse(6, node);
+    }
+    let start = 16 + node_count * 6;
+    let root_count = roots(theory);
+    let root = first_bad_root(&theory[start..], node_count, root_count);
+    if root < root_count {
+        return refusal::refuse(7, root);
+    }
+    refusal::accept(1)
+}

@@ -1,0 +1,69 @@
+-- What an image that no row refuses is like: each row that does not apply gives its fact, and together they make the book well formed.
+use mathlib.Core.Path.{_≡_, refl, _∙_}
+use mathlib.Core.Bool.{Bool, true, false, _||_, true≢false}
+use mathlib.Core.List.{List, [], _∷_, _++_}
+use Prim.Native.Nat.{ℕ, _≤_, _<_}
+use lib.Dec.{ltb}
+use lib.ListN.{length}
+use borrow.Author.Tests.{ltb-true, ltb-false, eqb-true, not-false}
+use Rattle.refusal.specs.Limits.{mostAtoms, mostNodes, mostRoots}
+use Rattle.refusal.specs.Table.{Row, none}
+use Rattle.refusal.proofs.Table.{none-cons}
+use Rattle.refusal.proofs.First.{firstSuch-none}
+use Rattle.theory.specs.Image.{atomCount, nodeCount, rootCount, imageLength, nodeSection, rootSection, nodeKeeps, rootIn}
+use Rattle.theory.specs.Rows.{row1, row2, row3, row4, row5, row6, row7, headerRows, theoryRows}
+
+-- What rows 1 to 5 leave.
+pub record Header (t : List ℕ) : Type 0 where
+  pub long : 16 ≤ length t
+  pub few-atoms : atomCount t ≤ mostAtoms
+  pub few-nodes : nodeCount t ≤ mostNodes
+  pub few-roots : rootCount t ≤ mostRoots
+  pub whole : length t ≡ imageLength (nodeCount t) (rootCount t)
+
+-- What all rows leave.
+pub record Accepted (t : List ℕ) : Type 0 where
+  pub header : Header t
+  pub nodes-keep : (k : ℕ) → k < nodeCount t → nodeKeeps (atomCount t) (nodeSection t) k ≡ true
+  pub roots-below : (i : ℕ) → i < rootCount t → rootIn (rootSection t) i < nodeCount t
+
+none-append : (rs qs : List Row) → none (rs ++ qs) ≡ true → (none rs ≡ true) × (none qs ≡ true)
+none-append [] qs h = (refl, h)
+none-append (r ∷ rs) qs h =
+    let first = none-cons r (rs ++ qs) h in
+    let rest = none-append rs qs (first .1) in
+    (rw (first .0) (rest .0), rest .1)
+
+either : (a b : Bool) → (a || b) ≡ false → (a ≡ false) × (b ≡ false)
+either true b h = absurd (true≢false h)
+either false b h = (refl, h)
+
+pub header-accepted : (t : List ℕ) → none (headerRows t) ≡ true → Header t
+unfolding headerRows
+header-accepted t h =
+    let from1 = none-cons (row1 t) (row2 t ∷ row3 t ∷ row4 t ∷ row5 t ∷ []) h in
+    let from2 = none-cons (row2 t) (row3 t ∷ row4 t ∷ row5 t ∷ []) (from1 .1) in
+    let from3 = none-cons (row3 t) (row4 t ∷ row5 t ∷ []) (from2 .1) in
+    let from4 = none-cons (row4 t) (row5 t ∷ []) (from3 .1) in
+    let from5 = none-cons (row5 t) [] (from4 .1) in
+    let limits = either (ltb mostAtoms (atomCount t)) (ltb mostNodes (nodeCount t) || ltb mostRoots (rootCount t)) (from2 .0) in
+    let others = either (ltb mostNodes (nodeCount t)) (ltb mostRoots (rootCount t)) (limits .1) in
+    record {
+      long = ltb-false _ _ (from1 .0);
+      few-atoms = ltb-false _ _ (limits .0);
+      few-nodes = ltb-false _ _ (others .0);
+      few-roots = ltb-false _ _ (others .1);
+      whole = eqb-true _ _ (not-false _ (from5 .0));
+    }
+
+pub accepted : (t : List ℕ) → none (theoryRows t) ≡ true → Accepted t
+unfolding theoryRows
+accepted t h =
+    let parts = none-append (headerRows t) (row6 t ∷ row7 t ∷ []) h in
+    let from6 = none-cons (row6 t) (row7 t ∷ []) (parts .1) in
+    let from7 = none-cons (row7 t) [] (from6 .1) in
+    record {
+      header = header-accepted t (parts .0);
+      nodes-keep = λ k l. not-false _ (firstSuch-none 6 _ _ .0 (from6 .0) k l);
+      roots-below = λ i l. ltb-true _ _ (not-false _ (firstSuch-none 7 _ _ .0 (from7 .0) i l));
+    }
