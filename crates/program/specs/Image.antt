@@ -59,13 +59,15 @@ ruleIn s k = ruleOf (headsIn s k) (positivesIn s k) (negativesIn s k) (slotsIn s
 abbrev pub slotKeeps : (B used i atom : ℕ) → Bool
 slotKeeps B used i a = cond (ltb i used) (ltb a B) (eqb a 0)
 
+-- Each of its three slots does.
+unfoldable pub slotsKeep : (B used : ℕ) → (first second third : ℕ) → Bool
+slotsKeep B used a b c = slotKeeps B used 0 a && (slotKeeps B used 1 b && slotKeeps B used 2 c)
+
 -- Rule k has at most three literals, a zero byte that is 0, atoms below B, and 0 in its unused slots.
 abbrev pub ruleKeeps : (B : ℕ) → List ℕ → ℕ → Bool
 ruleKeeps B s k =
     leb (usedIn s k) 3
-    && (eqb (getD s (k * 10 + 3) 0) 0
-    && (slotKeeps B (usedIn s k) 0 (u16At s (k * 10 + 4))
-    && (slotKeeps B (usedIn s k) 1 (u16At s (k * 10 + 6)) && slotKeeps B (usedIn s k) 2 (u16At s (k * 10 + 8)))))
+    && (eqb (getD s (k * 10 + 3) 0) 0 && slotsKeep B (usedIn s k) (u16At s (k * 10 + 4)) (u16At s (k * 10 + 6)) (u16At s (k * 10 + 8)))
 
 -- The program of an image.
 unfoldable pub programOf : List ℕ → Program

@@ -1,0 +1,55 @@
+-- `first_broken` tries the rules from the first on, and before each turn it has not passed the first that breaks row 26. Assumes nothing.
+use mathlib.Core.Path.{_≡_, sym, ap, _∙_}
+use mathlib.Core.Bool.{not}
+use Prim.Native.Nat.{_-_, _≤_}
+use borrow.Author.Needs.{needs}
+use Rattle.refusal.specs.First.{first}
+use Rattle.refusal.proofs.First.{first-here, first-on, first-end}
+use Rattle.program.specs.Image.{ruleKeeps}
+use Rattle.program.proofs.first_broken.Statement.{statement}
+use Rattle.program.proofs.first_broken.Tie as tie
+
+abbrev Inv-loop : tie.InvT-loop
+Inv-loop rules count size k₀ k = k ≤ first (λ j. not (ruleKeeps size rules j)) count
+
+abbrev μ-loop : tie.MeasureT-loop
+μ-loop rules count size k₀ k = count - k
+
+loop-holds : tie.Need-loop-holds Inv-loop μ-loop
+loop-holds c = search needs
+
+keeps-requires : tie.Need-keeps-requires Inv-loop μ-loop
+keeps-requires c κs = search needs
+
+returns : tie.Need-returns Inv-loop μ-loop
+returns c =
+    let turn = c .before .before in
+    sym (first-here _ _ _ (turn .before .loop .inv) (ap not (sym (c .before .keeps .ensures)) ∙ c .if1 .taken))
+
+add-k : tie.Need-add-k Inv-loop μ-loop
+add-k c = search needs
+
+loop-less : tie.Need-loop-less Inv-loop μ-loop
+loop-less c = search needs
+
+loop-again : tie.Need-loop-again Inv-loop μ-loop
+loop-again c =
+    let turn = c .before .before in
+    first-on _ _ _ (turn .before .loop .inv) (turn .loop-test .taken) (ap not (sym (c .before .keeps .ensures)) ∙ c .if1 .left)
+
+returns-2 : tie.Need-returns-2 Inv-loop μ-loop
+returns-2 c = sym (first-end _ _ _ (c .before .loop .inv) (c .loop-test .left))
+
+pub first-broken-spec : {M : Type 1} → statement M
+first-broken-spec =
+    tie.close
+    (tie.spec
+    Inv-loop
+    μ-loop
+    loop-holds
+    keeps-requires
+    returns
+    add-k
+    loop-less
+    loop-again
+    returns-2)
