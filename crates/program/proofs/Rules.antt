@@ -1,10 +1,14 @@
 -- A rule is satisfied by document 01's words exactly if its formula has the value 2: the smallest and the largest are the values of conjunction and disjunction.
 use mathlib.Core.Path.{_≡_, refl, sym}
-use mathlib.Core.Logic.{_↔_}
-use mathlib.Core.Bool.{Bool, true, _&&_, and-assoc, Bool·beq}
+use mathlib.Core.Logic.{_↔_, ⊎-elim}
+use mathlib.Core.Bool.{Bool, true, false, _&&_, and-assoc, and-false, Bool·beq}
 use mathlib.Core.List.{List, [], _∷_, _++_, map}
-use Prim.Native.Nat.{ℕ}
+use Prim.Native.Nat.{ℕ, zero, suc, _+_, _<_}
+use native.Mathlib.Nat.{eq-or-lt-of-le}
+use native.Mathlib.Omega.{arith}
 use lib.Dec.{leb}
+use Rattle.wire.specs.Sequence.{upTo}
+use Rattle.wire.proofs.Sequence.{upTo-more}
 use Rattle.logic.specs.declared.Value.{Value}
 use Rattle.logic.specs.declared.Value.the-variants.{Both}
 use Rattle.logic.specs.Value.{number, implication, negation, trueHere}
@@ -46,3 +50,16 @@ module _ (J : Reading) where
 pub allHold-append : {S : Type 0} (v : S → Value) (rs qs : List (RuleOf S)) → allHold v (rs ++ qs) ≡ (allHold v rs && allHold v qs)
 allHold-append v [] qs = refl
 allHold-append v (r ∷ rs) qs = rw (allHold-append v rs qs) (sym (and-assoc (holds v r) (allHold v rs) (allHold v qs)))
+
+-- Of the first rules of a sequence: one more that holds keeps them, and one that does not breaks them.
+module _ {S : Type 0} (v : S → Value) (f : ℕ → RuleOf S) where
+  pub allHold-more : (n : ℕ) → allHold v (upTo f n) ≡ true → holds v (f n) ≡ true → allHold v (upTo f (n + 1)) ≡ true
+  allHold-more n h t = rw (upTo-more f n, allHold-append v (upTo f n) (f n ∷ []), h, t)
+
+  pub allHold-broken : (n k : ℕ) → k < n → holds v (f k) ≡ false → allHold v (upTo f n) ≡ false
+  unfolding upTo
+  allHold-broken zero k l t = absurd (omega arith)
+  allHold-broken (suc n) k l t = rw (allHold-append v (upTo f n) (f n ∷ [])) (⊎-elim
+      (λ (e : suc k ≡ suc n). let m : k ≡ n = omega arith in rw (rw m at t) (and-false (allHold v (upTo f n))))
+      (λ (m : suc k < suc n). rw (allHold-broken n k (omega arith) t))
+      (eq-or-lt-of-le l))

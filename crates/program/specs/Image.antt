@@ -6,7 +6,7 @@ use lib.Dec.{eqb, leb, ltb}
 use lib.ListN.{getD, length, take, drop}
 use Rattle.wire.specs.Wire.{u16At, u16Bytes, u32Bytes}
 use Rattle.wire.specs.Sequence.{upTo}
-use Rattle.program.specs.Rule.{Rule}
+use Rattle.program.specs.Rule.{RuleOf, Rule}
 use Rattle.program.specs.Program.{Program}
 
 -- A, B and K of the header.
@@ -48,7 +48,7 @@ abbrev pub slotsIn : List ℕ → ℕ → List ℕ
 slotsIn s k = u16At s (k * 10 + 4) ∷ u16At s (k * 10 + 6) ∷ u16At s (k * 10 + 8) ∷ []
 
 -- A rule of so many heads, positives and negatives, in this order in the slots.
-abbrev pub ruleOf : (heads positives negatives : ℕ) → (slots : List ℕ) → Rule
+abbrev pub ruleOf : {S : Type 0} → (heads positives negatives : ℕ) → (slots : List S) → RuleOf S
 ruleOf h p n slots = record { heads = take h slots; positives = take p (drop h slots); negatives = take n (drop (h + p) slots) }
 
 -- Rule k of the rules' section.

@@ -1,12 +1,21 @@
 //! The program image: flat rules as bytes.
+use logic::Value;
 use refusal::Answer;
 ghost use mathlib.Core.Path.{_≡_};
-ghost use mathlib.Core.Bool.{not};
+ghost use mathlib.Core.Bool.{true, not, cond};
+ghost use mathlib.Core.List.{[], _∷_};
 ghost use Prim.Native.Nat.{_+_, _*_, _≤_, _<_};
+ghost use lib.Dec.{ltb};
 ghost use lib.ListN.{length};
-ghost use Rattle.refusal.specs.Table.{answer};
+ghost use Rattle.refusal.specs.Table.{answer, none};
 ghost use Rattle.refusal.specs.First.{first};
-ghost use Rattle.program.specs.Image.{usedIn, slotKeeps, slotsKeep, ruleKeeps, tenBytes, header};
+ghost use Rattle.logic.specs.declared.Value.the-variants.{Neither, Both};
+ghost use Rattle.logic.specs.Value.{negation};
+ghost use Rattle.logic.specs.Formula.{readingOf, valueOf};
+ghost use Rattle.program.specs.Rule.{holds};
+ghost use Rattle.program.specs.Program.{satisfiesProgram};
+ghost use Rattle.program.specs.Image.{sizeOf, usedIn, ruleOf, ruleIn, programOf};
+ghost use Rattle.program.specs.Image.{slotKeeps, slotsKeep, ruleKeeps, tenBytes, header};
 ghost use Rattle.program.specs.Rows.{outside, programRows};
 
 // The header of an image of `rules` rules.
@@ -147,6 +156,91 @@ fn slot_keeps(atom: usize, i: usize, used: usize, size: usize) -> bool
     ensures { λ r. ⌜ r ≡ slotKeeps size used i atom ⌝ }
 {
     if i < used { atom < size } else { atom == 0 }
+}
+
+// Whether a reading of B values satisfies every rule of an image that is accepted.
+pub fn satisfied(program: &[u8], reading: &[u8]) -> bool
+    requires { ⌜ (none (programRows (now program)) ≡ true) × (length (now reading) ≡ sizeOf (now program)) ⌝ }
+    ensures { λ r. ⌜ r ≡ satisfiesProgram (readingOf (now (reading .entry))) (programOf (now (program .entry))) ⌝ }
+{
+    let count = wire::u16_at(program, 4);
+    let rules = &program[16..];
+    let mut k = 0;
+    while k < count {
+        if !rule_holds(rules, k, reading) {
+            return false;
+        }
+        k += 1;
+    }
+    true
+}
+
+// Whether a reading satisfies rule k.
+fn rule_holds(rules: &[u8], k: usize, reading: &[u8]) -> bool
+    requires { ⌜ (k * 10 + 10 ≤ length (now rules)) × (usedIn (now rules) k ≤ 3) ⌝ }
+    ensures { λ r. ⌜ r ≡ holds (valueOf (readingOf (now (reading .entry)))) (ruleIn (now (rules .entry)) k) ⌝ }
+{
+    let at = k * 10;
+    let heads = wide(rules[at]);
+    let positives = wide(rules[at + 1]);
+    let negatives = wide(rules[at + 2]);
+    let first = value_of(reading, wire::u16_at(rules, at + 4));
+    let second = value_of(reading, wire::u16_at(rules, at + 6));
+    let third = value_of(reading, wire::u16_at(rules, at + 8));
+    values_hold(heads, positives, negatives, first, second, third)
+}
+
+// The value of an atom; 0 past the reading's end.
+fn value_of(reading: &[u8], atom: usize) -> Value
+    ensures { λ r. ⌜ r ≡ valueOf (readingOf (now (reading .entry))) atom ⌝ }
+{
+    if atom < reading.len() {
+        Value::of_byte(reading[atom])
+    } else {
+        Value::NEITHER
+    }
+}
+
+// Whether the smallest body value is at most the largest head value, for the values of the three slots.
+fn values_hold(
+    heads: usize,
+    positives: usize,
+    negatives: usize,
+    first: Value,
+    second: Value,
+    third: Value,
+) -> bool
+    requires { ⌜ (heads ≤ 3) × (positives ≤ 3) × (negatives ≤ 3) ⌝ }
+    ensures { λ r. ⌜ r ≡ holds (λ v. v) (ruleOf heads positives negatives (first ∷ second ∷ third ∷ [])) ⌝ }
+{
+    let end = heads + positives;
+    let used = end + negatives;
+    let last = in_body(second, 1, heads, end, used).and(in_body(third, 2, heads, end, used));
+    let body = in_body(first, 0, heads, end, used).and(last);
+    let head = in_head(first, 0, heads).or(in_head(second, 1, heads).or(in_head(third, 2, heads)));
+    body.byte() <= head.byte()
+}
+
+// What slot i adds to the head: its value where it is a head, else the value of the empty head.
+fn in_head(value: Value, i: usize, heads: usize) -> Value
+    ensures { λ r. ⌜ r ≡ cond (ltb i heads) value Neither ⌝ }
+{
+    choose(i < heads, value, Value::NEITHER)
+}
+
+// What slot i adds to the body: its value where it is a positive, the value of not where it is a negative, else the value
+// of the empty body. Heads end at `heads`, positives at `end`, negatives at `used`.
+fn in_body(value: Value, i: usize, heads: usize, end: usize, used: usize) -> Value
+    ensures { λ r. ⌜ r ≡ cond (ltb i heads) Both (cond (ltb i end) value (cond (ltb i used) (negation value) Both)) ⌝ }
+{
+    let literal = choose(i < end, value, choose(i < used, value.not(), Value::BOTH));
+    choose(i < heads, Value::BOTH, literal)
+}
+
+fn choose(test: bool, yes: Value, no: Value) -> Value
+    ensures { λ r. ⌜ r ≡ cond test yes no ⌝ }
+{
+    if test { yes } else { no }
 }
 
 fn wide(byte: u8) -> usize

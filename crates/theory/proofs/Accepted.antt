@@ -1,17 +1,24 @@
 -- What an image that no row refuses is like: each row that does not apply gives its fact, and together they make the book well formed.
 use mathlib.Core.Path.{_≡_, refl, _∙_}
-use mathlib.Core.Bool.{Bool, true, false, _||_, true≢false}
+use mathlib.Core.Bool.{Bool, true, false, _&&_, _||_, true≢false}
 use mathlib.Core.List.{List, [], _∷_, _++_}
-use Prim.Native.Nat.{ℕ, _≤_, _<_}
-use lib.Dec.{ltb}
-use lib.ListN.{length}
+use Prim.Native.Nat.{ℕ, _+_, _*_, _≤_, _<_}
+use native.Mathlib.Nat.{zero-add}
+use native.Mathlib.Omega.{arith}
+use lib.Dec.{ltb, eqb}
+use lib.ListN.{length, getD}
 use borrow.Author.Tests.{ltb-true, ltb-false, eqb-true, not-false}
 use Rattle.refusal.specs.Limits.{mostAtoms, mostNodes, mostRoots}
 use Rattle.refusal.specs.Table.{Row, none}
 use Rattle.refusal.proofs.Table.{none-cons}
 use Rattle.refusal.proofs.First.{firstSuch-none}
-use Rattle.theory.specs.Image.{atomCount, nodeCount, rootCount, imageLength, nodeSection, rootSection, nodeKeeps, rootIn}
+use Rattle.logic.proofs.Bools.{&&-split}
+use Rattle.wire.specs.Sequence.{upTo}
+use Rattle.wire.proofs.Sequence.{length-upTo, getD-upTo}
+use Rattle.theory.specs.Book.{Node, WellFormed, fits}
+use Rattle.theory.specs.Image.{atomCount, nodeCount, rootCount, imageLength, nodeSection, rootSection, nodeIn, nodeKeeps, rootIn, bookOf}
 use Rattle.theory.specs.Rows.{row1, row2, row3, row4, row5, row6, row7, headerRows, theoryRows}
+use Rattle.theory.proofs.Books.{allFit-each, allBelow-each}
 
 -- What rows 1 to 5 leave.
 pub record Header (t : List ℕ) : Type 0 where
@@ -37,6 +44,12 @@ none-append (r ∷ rs) qs h =
 either : (a b : Bool) → (a || b) ≡ false → (a ≡ false) × (b ≡ false)
 either true b h = absurd (true≢false h)
 either false b h = (refl, h)
+
+-- A node that keeps to its row fits.
+pub keeps-fits : (A : ℕ) (s : List ℕ) (k : ℕ) → nodeKeeps A s k ≡ true → fits A k (nodeIn s k) ≡ true
+keeps-fits A s k h =
+    let rest : Bool = eqb (getD s (k * 6 + 1) 0) 0 && fits A k (nodeIn s k) in
+    &&-split (eqb (getD s (k * 6 + 1) 0) 0) (fits A k (nodeIn s k)) (&&-split (ltb (getD s (k * 6) 0) 7) rest h .1) .1
 
 pub header-accepted : (t : List ℕ) → none (headerRows t) ≡ true → Header t
 unfolding headerRows
@@ -66,4 +79,21 @@ accepted t h =
       header = header-accepted t (parts .0);
       nodes-keep = λ k l. not-false _ (firstSuch-none 6 _ _ .0 (from6 .0) k l);
       roots-below = λ i l. ltb-true _ _ (not-false _ (firstSuch-none 7 _ _ .0 (from7 .0) i l));
+    }
+
+pub accepted-wellFormed : (t : List ℕ) → none (theoryRows t) ≡ true → WellFormed (bookOf t)
+unfolding bookOf
+accepted-wellFormed t h =
+    let a = accepted t h in
+    let N : ℕ = nodeCount t in
+    let ns : List Node = upTo (nodeIn (nodeSection t)) N in
+    let rs : List ℕ = upTo (rootIn (rootSection t)) (rootCount t) in
+    let counted : length ns ≡ N = length-upTo (nodeIn (nodeSection t)) N in
+    record {
+      nodes-fit = allFit-each (atomCount t) 0 ns
+          (λ k l. let b : k < N = omega arith in
+          rw (zero-add k, getD-upTo (nodeIn (nodeSection t)) N k _ b) (keeps-fits (atomCount t) (nodeSection t) k (a .nodes-keep k b)));
+      roots-below = allBelow-each (length ns) rs
+          (λ i l. let b : i < rootCount t = omega (arith, length-upTo (rootIn (rootSection t)) (rootCount t)) in
+          rw (counted, getD-upTo (rootIn (rootSection t)) (rootCount t) i 0 b) (a .roots-below i b));
     }

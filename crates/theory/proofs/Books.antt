@@ -5,11 +5,22 @@ use mathlib.Core.List.{List, [], _∷_, _++_}
 use Prim.Native.Nat.{ℕ, zero, suc, _+_, _<_}
 use native.Mathlib.Nat.{add-zero}
 use native.Mathlib.Omega.{arith}
+use lib.Dec.{ltb}
 use lib.ListN.{length, getD, take, drop, length-append, List·getD-append}
 use lib.Seq.{getD-append-seam}
+use borrow.Author.Tests.{lt-ltb, ltb-true}
 use Rattle.logic.specs.Formula.{Formula, falsum}
-use Rattle.logic.proofs.Bools.{&&-split}
-use Rattle.theory.specs.Book.{Node, nodeAt, fits, allFit, formulaAt, formula, formulas}
+use Rattle.logic.proofs.Bools.{&&-split, &&-join}
+use Rattle.wire.specs.Sequence.{upTo}
+use Rattle.wire.proofs.Sequence.{upTo-more}
+use Rattle.theory.specs.Book.{Node, nodeAt, leftLimit, rightLimit, fits, allFit, allBelow, formulaAt, formula, formulas}
+
+-- Left and right of a node that fits are below their limits.
+pub fits-left : (A k : ℕ) (n : Node) → fits A k n ≡ true → n .left < leftLimit A k (n .kind)
+fits-left A k n h = ltb-true _ _ (&&-split (ltb (n .left) (leftLimit A k (n .kind))) (ltb (n .right) (rightLimit k (n .kind))) h .0)
+
+pub fits-right : (A k : ℕ) (n : Node) → fits A k n ≡ true → n .right < rightLimit k (n .kind)
+fits-right A k n h = ltb-true _ _ (&&-split (ltb (n .left) (leftLimit A k (n .kind))) (ltb (n .right) (rightLimit k (n .kind))) h .1)
 
 -- Each node of a list keeps to its row where all do.
 pub allFit-at : (A i : ℕ) (ns : List Node) → allFit A i ns ≡ true → (k : ℕ) → k < length ns → fits A (i + k) (nodeAt ns k) ≡ true
@@ -18,6 +29,17 @@ allFit-at A i (n ∷ ns) ok zero h = rw add-zero (&&-split (fits A i n) (allFit 
 allFit-at A i (n ∷ ns) ok (suc k) h =
     let e : suc i + k ≡ i + suc k = omega arith in
     rw e at (allFit-at A (suc i) ns (&&-split (fits A i n) (allFit A (suc i) ns) ok .1) k (omega arith))
+
+-- And all do where each does.
+pub allFit-each : (A i : ℕ) (ns : List Node) → ((k : ℕ) → k < length ns → fits A (i + k) (nodeAt ns k) ≡ true) → allFit A i ns ≡ true
+allFit-each A i [] h = refl
+allFit-each A i (n ∷ ns) h =
+    &&-join (rw add-zero at (h 0 (omega arith))) (allFit-each A (suc i) ns (λ k l. let e : suc i + k ≡ i + suc k = omega arith in rw e (h (suc k) (omega arith))))
+
+-- Numbers are all below n where each is.
+pub allBelow-each : (n : ℕ) (ks : List ℕ) → ((i : ℕ) → i < length ks → getD ks i 0 < n) → allBelow n ks ≡ true
+allBelow-each n [] h = refl
+allBelow-each n (k ∷ ks) h = &&-join (lt-ltb k n (h 0 (omega arith))) (allBelow-each n ks (λ i l. h (suc i) (omega arith)))
 
 pub length-formulas : (fs : List Formula) (ns : List Node) → length (formulas fs ns) ≡ length fs + length ns
 length-formulas fs [] = sym (add-zero (length fs))
@@ -45,3 +67,13 @@ formulas-at fs (n ∷ ns) (suc k) h =
     let fs′ = fs ++ (formula fs n ∷ []) in
     let e : length fs′ + k ≡ length fs + suc k = rw length-append (omega arith) in
     rw e at (formulas-at fs′ ns k (omega arith))
+
+-- One node more has one formula more, made of those before it.
+pub formulas-snoc : (fs : List Formula) (ns : List Node) (n : Node) → formulas fs (ns ++ (n ∷ [])) ≡ formulas fs ns ++ (formula (formulas fs ns) n ∷ [])
+formulas-snoc fs [] n = refl
+formulas-snoc fs (m ∷ ns) n = formulas-snoc (fs ++ (formula fs m ∷ [])) ns n
+
+-- The same for the first nodes of a sequence.
+pub formulas-upTo : (fs : List Formula) (f : ℕ → Node) (k : ℕ)
+    → formulas fs (upTo f (k + 1)) ≡ formulas fs (upTo f k) ++ (formula (formulas fs (upTo f k)) (f k) ∷ [])
+formulas-upTo fs f k = rw upTo-more (formulas-snoc fs (upTo f k) (f k))

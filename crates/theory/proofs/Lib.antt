@@ -3,3 +3,5 @@ pub mod BenchCases
 pub mod Images
 pub mod Rows
 pub mod Accepted
+pub mod NodeValues
+pub mod Satisfaction

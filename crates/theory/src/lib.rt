@@ -1,17 +1,22 @@
 //! The theory image: whether it is one, and what its nodes and roots are worth under a reading.
+use logic::Value;
 use refusal::Answer;
 ghost use mathlib.Core.Path.{_≡_};
-ghost use mathlib.Core.Bool.{not, _||_};
-ghost use Prim.Native.Nat.{_+_, _*_, _≤_, _<_};
+ghost use mathlib.Core.Bool.{true, not, _||_};
+ghost use mathlib.Core.List.{map};
+ghost use Prim.Native.Nat.{ℕ, _+_, _*_, _≤_, _<_};
 ghost use lib.Dec.{eqb, ltb};
-ghost use lib.ListN.{length};
-ghost use Rattle.refusal.specs.Table.{answer};
+ghost use lib.ListN.{length, getD};
+ghost use Rattle.refusal.specs.Table.{answer, none};
 ghost use Rattle.refusal.specs.First.{first};
 ghost use Rattle.refusal.specs.Limits.{mostAtoms, mostNodes, mostRoots};
-ghost use Rattle.wire.specs.Wire.{u32At};
-ghost use Rattle.theory.specs.Book.{leftLimit, rightLimit};
-ghost use Rattle.theory.specs.Image.{atomCount, nodeCount, rootCount, kindOf, nodeKeeps, rootIn};
+ghost use Rattle.logic.specs.Value.{number};
+ghost use Rattle.logic.specs.Formula.{readingOf, valueOf, satisfies};
+ghost use Rattle.wire.specs.Wire.{u32At, over};
+ghost use Rattle.theory.specs.Book.{leftLimit, rightLimit, fits, bookFormulas};
+ghost use Rattle.theory.specs.Image.{atomCount, nodeCount, rootCount, kindOf, nodeIn, nodeKeeps, rootIn, bookOf};
 ghost use Rattle.theory.specs.Rows.{headerRows, theoryRows};
+ghost use Rattle.theory.specs.NodeValues.{valueFrom, valuesTo, nodeValues};
 
 // A of the header.
 pub fn atoms(theory: &[u8]) -> usize
@@ -171,4 +176,88 @@ pub fn check(theory: &[u8]) -> Answer
         return refusal::refuse(7, root);
     }
     refusal::accept(1)
+}
+
+// The value of an atom by its byte in a reading, or of a node by its byte among those written.
+fn value_at(bytes: &[u8], i: usize) -> Value
+    requires { ⌜ i < length (now bytes) ⌝ }
+    ensures { λ r. ⌜ r ≡ valueOf (readingOf (now (bytes .entry))) i ⌝ }
+{
+    Value::of_byte(bytes[i])
+}
+
+// The value of node k, from the values of the nodes before it.
+fn node_value(nodes: &[u8], reading: &[u8], earlier: &[u8], k: usize) -> Value
+    requires { ⌜ (k * 6 + 6 ≤ length (now nodes)) × (length (now earlier) ≡ k) ⌝ }
+    requires { ⌜ fits (length (now reading)) k (nodeIn (now nodes) k) ≡ true ⌝ }
+    ensures { λ r. ⌜ r ≡ valueFrom (readingOf (now (reading .entry))) (readingOf (now (earlier .entry))) (nodeIn (now (nodes .entry)) k) ⌝ }
+{
+    let i = k * 6;
+    let kind = nodes[i];
+    let left = wire::u16_at(nodes, i + 2);
+    let right = wire::u16_at(nodes, i + 4);
+    match kind {
+        0 => Value::NEITHER,
+        1 => Value::BOTH,
+        2 => value_at(reading, left),
+        3 => value_at(earlier, left).not(),
+        4 => value_at(earlier, left).and(value_at(earlier, right)),
+        5 => value_at(earlier, left).or(value_at(earlier, right)),
+        _ => value_at(earlier, left).implies(value_at(earlier, right)),
+    }
+}
+
+// Writes the values of the first `count` nodes over the start of `values`.
+fn write_values(nodes: &[u8], reading: &[u8], values: &mut [u8], count: usize)
+    requires { ⌜ (count * 6 ≤ length (now nodes)) × (count ≤ length (now values)) ⌝ }
+    requires { ⌜ ((k : ℕ) → k < count → fits (length (now reading)) k (nodeIn (now nodes) k) ≡ true) ⌝ }
+    ensures { λ _. ⌜ now (values .exit) ≡ over (map number (valuesTo (readingOf (now (reading .entry))) (now (nodes .entry)) count)) (now (values .entry)) ⌝ }
+{
+    let mut k = 0;
+    while k < count {
+        let value = node_value(nodes, reading, &values[..k], k);
+        values[k] = value.byte();
+        k += 1;
+    }
+}
+
+// Writes the value of each node of an accepted theory under a reading, over the start of `values`.
+pub fn values(theory: &[u8], reading: &[u8], values: &mut [u8])
+    requires { ⌜ none (theoryRows (now theory)) ≡ true ⌝ }
+    requires { ⌜ length (now reading) ≡ atomCount (now theory) ⌝ }
+    requires { ⌜ nodeCount (now theory) ≤ length (now values) ⌝ }
+    ensures { λ _. ⌜ now (values .exit) ≡ over (map number (nodeValues (bookOf (now (theory .entry))) (readingOf (now (reading .entry))))) (now (values .entry)) ⌝ }
+{
+    let count = nodes(theory);
+    write_values(&theory[16..], reading, values, count);
+}
+
+// The index of the first root whose value is not 2, and the count where each is 2.
+fn first_untrue(roots: &[u8], values: &[u8], count: usize) -> usize
+    requires { ⌜ count * 2 ≤ length (now roots) ⌝ }
+    requires { ⌜ ((i : ℕ) → i < count → rootIn (now roots) i < length (now values)) ⌝ }
+    ensures { λ r. ⌜ r ≡ first (λ i. not (eqb (getD (now (values .entry)) (rootIn (now (roots .entry)) i) 0) 2)) count ⌝ }
+{
+    let mut i = 0;
+    while i < count {
+        let root = wire::u16_at(roots, i * 2);
+        if values[root] != 2 {
+            return i;
+        }
+        i += 1;
+    }
+    count
+}
+
+// Whether a reading satisfies an accepted theory. `scratch` is left with the nodes' values at its start.
+pub fn satisfied(theory: &[u8], reading: &[u8], scratch: &mut [u8]) -> bool
+    requires { ⌜ none (theoryRows (now theory)) ≡ true ⌝ }
+    requires { ⌜ length (now reading) ≡ atomCount (now theory) ⌝ }
+    requires { ⌜ nodeCount (now theory) ≤ length (now scratch) ⌝ }
+    ensures { λ r. ⌜ r ≡ satisfies (readingOf (now (reading .entry))) (bookFormulas (bookOf (now (theory .entry)))) ⌝ }
+{
+    values(theory, reading, scratch);
+    let start = 16 + nodes(theory) * 6;
+    let count = roots(theory);
+    first_untrue(&theory[start..], scratch, count) == count
 }

@@ -8,7 +8,6 @@ use native.Mathlib.Omega.{arith}
 use lib.ListN.{drop, length-drop}
 use denote.Ref.{now}
 use borrow.Author.Tests.{lt-ltb, le-ltb, eq-eqb, ne-eqb, eqb-true, not-false}
-use Rattle.refusal.specs.declared.Answer.{Answer}
 use Rattle.refusal.specs.Table.{Row, refused, answer}
 use Rattle.program.specs.Image.{ruleCount}
 use Rattle.program.specs.Rows.{row21, row22, row23, row24, row25, row26, programRows}
@@ -59,7 +58,7 @@ past3 : (c : tie.Else3) → answer (From 0 (image3 c)) 1 ≡ answer (From 3 (ima
 unfolding programRows
 past3 c = past2 (c .before .before) ∙ past (row23 (image3 c)) (From 3 (image3 c)) (rw (← c .before .u16-at4 .ensures .0, eq-eqb _ 0 (c .if3 .left)))
 
--- K and the total length field, as they were read.
+-- K, as it was read.
 count : (c : tie.Else3) → c .before .before .before .before .before .u16-at2 .result ≡ ruleCount (image3 c)
 count c = c .before .before .before .before .before .u16-at2 .ensures .0
 
