@@ -1,10 +1,10 @@
 -- The bench cases P1 to P9: each book beside its answer sets.
-use mathlib.Core.Bool.{Bool, true, false, cond}
+use mathlib.Core.Bool.{cond}
 use mathlib.Core.List.{List, [], _∷_, map}
 use Prim.Native.Nat.{ℕ, suc}
 use Rattle.logic.specs.Atoms.{Atoms}
 use Rattle.logic.specs.AnswerSet.{answerSets}
-use Rattle.theory.specs.Book.{Kind, falseKind, trueKind, atomKind, notKind, andKind, orKind, impliesKind, Node, Book, bookFormulas}
+use Rattle.theory.specs.Book.{Kind, falseKind, atomKind, notKind, orKind, impliesKind, Node, Book, bookFormulas}
 
 -- The atoms of a set, ascending, the first of the list being atom k.
 abbrev pub atomsFrom : (k : ℕ) → Atoms → List ℕ

@@ -42,6 +42,50 @@ pub fn roots(theory: &[u8]) -> usize
     wire::u16_at(theory, 4)
 }
 
+// Whether A, N or R is over its limit.
+fn over_limits(atoms: usize, nodes: usize, roots: usize) -> bool
+    ensures { λ r. ⌜ r ≡ (ltb mostAtoms atoms || (ltb mostNodes nodes || ltb mostRoots roots)) ⌝ }
+{
+    if refusal::MOST_ATOMS < atoms {
+        return true;
+    }
+    refusal::MOST_NODES < nodes || refusal::MOST_ROOTS < roots
+}
+
+// Whether an offset differs, where the roots are to start at `start`.
+fn offsets_differ(theory: &[u8], start: usize) -> bool
+    requires { ⌜ 16 ≤ length (now theory) ⌝ }
+    ensures { λ r. ⌜ r ≡ (not (eqb (u32At (now (theory .entry)) 8) 16) || not (eqb (u32At (now (theory .entry)) 12) start)) ⌝ }
+{
+    wire::u32_at(theory, 8) != 16 || wire::u32_at(theory, 12) != start
+}
+
+// Rows 1 to 5.
+fn header(theory: &[u8]) -> Answer
+    ensures { λ r. ⌜ r ≡ answer (headerRows (now (theory .entry))) 0 ⌝ }
+{
+    if theory.len() < 16 {
+        return refusal::refuse(1, 0);
+    }
+    let node_count = nodes(theory);
+    let root_count = roots(theory);
+    if over_limits(atoms(theory), node_count, root_count) {
+        return refusal::refuse(2, 0);
+    }
+    if wire::u16_at(theory, 6) != 0 {
+        return refusal::refuse(3, 0);
+    }
+    let start = 16 + node_count * 6;
+    if offsets_differ(theory, start) {
+        return refusal::refuse(4, 0);
+    }
+    let wanted = start + root_count * 2;
+    if theory.len() != wanted {
+        return refusal::refuse(5, wanted);
+    }
+    refusal::accept(0)
+}
+
 // What left has to be below, in node k of a theory with so many atoms.
 fn left_limit(kind: u8, atoms: usize, k: usize) -> usize
     ensures { λ r. ⌜ r ≡ leftLimit atoms k (kindOf kind) ⌝ }
@@ -110,50 +154,6 @@ fn first_bad_root(roots: &[u8], nodes: usize, count: usize) -> usize
         i += 1;
     }
     count
-}
-
-// Rows 1 to 5.
-fn header(theory: &[u8]) -> Answer
-    ensures { λ r. ⌜ r ≡ answer (headerRows (now (theory .entry))) 0 ⌝ }
-{
-    if theory.len() < 16 {
-        return refusal::refuse(1, 0);
-    }
-    let node_count = nodes(theory);
-    let root_count = roots(theory);
-    if over_limits(atoms(theory), node_count, root_count) {
-        return refusal::refuse(2, 0);
-    }
-    if wire::u16_at(theory, 6) != 0 {
-        return refusal::refuse(3, 0);
-    }
-    let start = 16 + node_count * 6;
-    if offsets_differ(theory, start) {
-        return refusal::refuse(4, 0);
-    }
-    let wanted = start + root_count * 2;
-    if theory.len() != wanted {
-        return refusal::refuse(5, wanted);
-    }
-    refusal::accept(0)
-}
-
-// Whether A, N or R is over its limit.
-fn over_limits(atoms: usize, nodes: usize, roots: usize) -> bool
-    ensures { λ r. ⌜ r ≡ (ltb mostAtoms atoms || (ltb mostNodes nodes || ltb mostRoots roots)) ⌝ }
-{
-    if refusal::MOST_ATOMS < atoms {
-        return true;
-    }
-    refusal::MOST_NODES < nodes || refusal::MOST_ROOTS < roots
-}
-
-// Whether an offset differs, where the roots are to start at `start`.
-fn offsets_differ(theory: &[u8], start: usize) -> bool
-    requires { ⌜ 16 ≤ length (now theory) ⌝ }
-    ensures { λ r. ⌜ r ≡ (not (eqb (u32At (now (theory .entry)) 8) 16) || not (eqb (u32At (now (theory .entry)) 12) start)) ⌝ }
-{
-    wire::u32_at(theory, 8) != 16 || wire::u32_at(theory, 12) != start
 }
 
 // Rows 1 to 7: the header, then the nodes, then the roots.
@@ -249,7 +249,7 @@ fn first_untrue(roots: &[u8], values: &[u8], count: usize) -> usize
     count
 }
 
-// Whether a reading satisfies an accepted theory. `scratch` is left with the nodes' values at its start.
+// Whether a reading satisfies an accepted theory: its nodes' values go to `scratch`, then each root is looked up there.
 pub fn satisfied(theory: &[u8], reading: &[u8], scratch: &mut [u8]) -> bool
     requires { ⌜ none (theoryRows (now theory)) ≡ true ⌝ }
     requires { ⌜ length (now reading) ≡ atomCount (now theory) ⌝ }

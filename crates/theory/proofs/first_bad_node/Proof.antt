@@ -1,5 +1,5 @@
 -- `first_bad_node` gives the first node that breaks its row: before each turn it has not passed that node. Assumes nothing.
-use mathlib.Core.Path.{_≡_, sym, ap, _∙_}
+use mathlib.Core.Path.{sym, ap, _∙_}
 use mathlib.Core.Bool.{not}
 use Prim.Native.Nat.{_-_, _≤_}
 use borrow.Author.Needs.{needs}

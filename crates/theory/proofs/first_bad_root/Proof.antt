@@ -1,5 +1,5 @@
 -- `first_bad_root` gives the first root that is no node: before each turn it has not passed that root. Assumes nothing.
-use mathlib.Core.Path.{_≡_, sym}
+use mathlib.Core.Path.{sym}
 use mathlib.Core.Bool.{not}
 use Prim.Native.Nat.{_-_, _≤_}
 use lib.Dec.{ltb}

@@ -1,5 +1,5 @@
 -- `first_untrue` gives the first root whose value is not 2: before each turn it has not passed that root. Assumes nothing.
-use mathlib.Core.Path.{_≡_, sym}
+use mathlib.Core.Path.{sym}
 use mathlib.Core.Bool.{not}
 use Prim.Native.Nat.{_-_, _≤_}
 use lib.Dec.{eqb}

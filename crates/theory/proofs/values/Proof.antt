@@ -1,7 +1,4 @@
 -- `values` writes the values of an accepted image's nodes: what acceptance says of the nodes is what `write_values` requires. Assumes nothing.
-use mathlib.Core.Path.{_≡_, sym, _∙_}
-use mathlib.Core.List.{List}
-use Prim.Native.Nat.{ℕ}
 use native.Mathlib.Omega.{arith}
 use lib.ListN.{length-drop}
 use denote.Ref.{now}
