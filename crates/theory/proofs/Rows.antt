@@ -6,7 +6,7 @@ use Prim.Native.Nat.{ℕ, _≤_, _<_}
 use borrow.Author.Tests.{lt-ltb, le-ltb, ltb-true, ltb-false, not-true, not-false}
 use Rattle.refusal.specs.Table.{Row, refused, answer, numbered}
 use Rattle.refusal.specs.First.{first, firstSuch}
-use Rattle.refusal.proofs.First.{first-at, first-before}
+use Rattle.refusal.proofs.First.{firstSuch-first}
 use Rattle.theory.specs.Image.{atomCount, nodeCount, rootCount, nodeSection, rootSection, nodeKeeps, rootIn}
 use Rattle.theory.specs.Rows.{row6, row7, headerRows, theoryRows}
 
@@ -30,12 +30,11 @@ module _ (number : ℕ) (test : ℕ → Bool) (n k : ℕ) (found : k ≡ first t
 -- Where row 6 applies, its place is a node that does not keep to its row, and every node before does.
 pub row6-first : (t : List ℕ) → row6 t .applies ≡ true
     → (nodeKeeps (atomCount t) (nodeSection t) (row6 t .place) ≡ false) × ((k : ℕ) → k < row6 t .place → nodeKeeps (atomCount t) (nodeSection t) k ≡ true)
-row6-first t h = (not-true _ (first-at _ _ (ltb-true _ _ h)), λ k l. not-false _ (first-before _ (nodeCount t) k l))
+row6-first t h = let f = firstSuch-first 6 _ (nodeCount t) h in (not-true _ (f .holds), λ k l. not-false _ (f .not-before k l))
 
 -- Where row 7 applies, its place is the index of a root that is not below N, and every root before is.
 pub row7-first : (t : List ℕ) → row7 t .applies ≡ true
     → (nodeCount t ≤ rootIn (rootSection t) (row7 t .place)) × ((i : ℕ) → i < row7 t .place → rootIn (rootSection t) i < nodeCount t)
-row7-first t h = (
-  ltb-false _ _ (not-true _ (first-at _ _ (ltb-true _ _ h))),
-  λ i l. ltb-true _ _ (not-false _ (first-before _ (rootCount t) i l)),
-)
+row7-first t h =
+    let f = firstSuch-first 7 _ (rootCount t) h in
+    (ltb-false _ _ (not-true _ (f .holds)), λ i l. ltb-true _ _ (not-false _ (f .not-before i l)))
