@@ -11,7 +11,7 @@ use Rattle.refusal.specs.Table.{Row, none, numbered}
 use Rattle.refusal.proofs.Table.{none-cons}
 use Rattle.refusal.proofs.First.{firstSuch-none}
 use Rattle.wire.specs.Wire.{u16At, u32At}
-use Rattle.logic.proofs.Bools.{&&-split, &&-join}
+use Rattle.logic.proofs.Bools.{&&-split}
 use Rattle.program.specs.Image.{atomCount, sizeOf, ruleCount, imageLength, ruleSection, usedIn, slotsIn, slotKeeps, slotsKeep, ruleKeeps}
 use Rattle.program.specs.Rows.{outside, row21, row22, row23, row24, row25, row26, programRows}
 

@@ -1,11 +1,11 @@
 -- Reading what was written gives the same program: each number is read from the bytes it was written to, and each rule from its ten bytes. Assumes nothing.
-use mathlib.Core.Path.{_≡_, refl, sym, ap, _∙_}
-use mathlib.Core.Bool.{Bool, true, false, not, _&&_}
+use mathlib.Core.Path.{_≡_, refl, _∙_}
+use mathlib.Core.Bool.{true, not}
 use mathlib.Core.List.{List, [], _∷_, _++_, append-assoc}
 use Prim.Native.Nat.{ℕ, zero, suc, _+_, _*_, _/_, _%_, _≤_, _<_}
 use native.Mathlib.Omega.{arith}
 use lib.Dec.{ltb, leb}
-use lib.ListN.{length, getD, take, drop, length-append, List·getD-eq-default}
+use lib.ListN.{length, getD, take, length-append, List·getD-eq-default}
 use lib.Seq.{getD-append-add, take-append-seam, drop-append-seam, drop-append-add, ext-getD}
 use borrow.Author.Tests.{ltb-true, ltb-false, leb-true, lt-ltb, eq-eqb, le-leb, not-true}
 use Rattle.refusal.specs.Table.{none}
@@ -14,14 +14,14 @@ use Rattle.wire.specs.Wire.{u16At, u32At, over}
 use Rattle.wire.specs.Sequence.{upTo}
 use Rattle.wire.proofs.Laws.{u16At-append, u32At-u32Bytes}
 use Rattle.wire.proofs.Sequence.{length-upTo, getD-upTo}
-use Rattle.logic.proofs.Bools.{&&-split, &&-join}
+use Rattle.logic.proofs.Bools.{&&-split}
 use Rattle.program.specs.Rule.{Rule}
 use Rattle.program.specs.Program.{Program}
 use Rattle.program.specs.Image.{atomCount, sizeOf, ruleCount, imageLength, ruleSection, ruleOf, ruleIn, slotKeeps, slotsKeep, ruleKeeps, programOf, literals, ruleBytes, rulesBytes, header, imageOf}
 use Rattle.program.specs.Rows.{outside, programRows}
 use Rattle.program.specs.Writable.{allBelow, ruleWritable, rulesWritable, writable}
 use Rattle.program.proofs.Lengths.{length-ruleBytes, length-rulesBytes, length-imageOf}
-use Rattle.program.proofs.Accepted.{Inside, outside-false, Accepted, programRows-none}
+use Rattle.program.proofs.Accepted.{Inside, outside-false, programRows-none}
 
 -- ---- a rule behind others
 

@@ -1,7 +1,7 @@
 -- A rule is satisfied by document 01's words exactly if its formula has the value 2: the smallest and the largest are the values of conjunction and disjunction.
 use mathlib.Core.Path.{_≡_, refl, sym}
 use mathlib.Core.Logic.{_↔_, ⊎-elim}
-use mathlib.Core.Bool.{Bool, true, false, _&&_, and-assoc, and-false, Bool·beq}
+use mathlib.Core.Bool.{true, false, _&&_, and-assoc, and-false, Bool·beq}
 use mathlib.Core.List.{List, [], _∷_, _++_, map}
 use Prim.Native.Nat.{ℕ, zero, suc, _+_, _<_}
 use native.Mathlib.Nat.{eq-or-lt-of-le}
@@ -11,10 +11,10 @@ use Rattle.wire.specs.Sequence.{upTo}
 use Rattle.wire.proofs.Sequence.{upTo-more}
 use Rattle.logic.specs.declared.Value.{Value}
 use Rattle.logic.specs.declared.Value.the-variants.{Both}
-use Rattle.logic.specs.Value.{number, implication, negation, trueHere}
+use Rattle.logic.specs.Value.{number, implication, trueHere}
 use Rattle.logic.specs.Formula.{Formula, atom, neg, Reading, valueOf, value, satisfies}
 use Rattle.logic.proofs.Bools.{beq-sound}
-use Rattle.logic.proofs.Finite.{every, agree₂}
+use Rattle.logic.proofs.Finite.{agree₂}
 use Rattle.logic.proofs.Values.{trueHere-iff}
 use Rattle.program.specs.Rule.{RuleOf, Rule, smallest, largest, bodyValue, holds, allHold, conjs, disjs, ruleFormula}
 use Rattle.program.specs.Program.{Program, satisfiesProgram, programFormulas}

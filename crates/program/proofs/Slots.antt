@@ -12,7 +12,7 @@ use Rattle.logic.specs.declared.Value.the-variants.{Neither, Both}
 use Rattle.logic.specs.Value.{number, smaller, larger, negation}
 use Rattle.logic.proofs.Bools.{&&-split, beq-sound}
 use Rattle.logic.proofs.Finite.{every, agree₃}
-use Rattle.program.specs.Rule.{RuleOf, smallest, largest, holds}
+use Rattle.program.specs.Rule.{smallest, largest, holds}
 use Rattle.program.specs.Image.{ruleOf}
 
 -- What slot i adds to the head, and to the body.

@@ -6,7 +6,7 @@ use lib.Dec.{leb}
 use Rattle.logic.specs.declared.Value.{Value}
 use Rattle.logic.specs.declared.Value.the-variants.{Neither, Both}
 use Rattle.logic.specs.Value.{number, smaller, larger, negation}
-use Rattle.logic.specs.Formula.{Formula, falsum, verum, atom, neg, conj, disj, impl, Reading, valueOf}
+use Rattle.logic.specs.Formula.{Formula, falsum, verum, atom, neg, conj, disj, impl}
 
 -- heads ← positives, not negatives.
 pub record RuleOf (S : Type 0) : Type 0 where

@@ -7,6 +7,7 @@ ghost use mathlib.Core.List.{[], _∷_};
 ghost use Prim.Native.Nat.{_+_, _*_, _≤_, _<_};
 ghost use lib.Dec.{ltb};
 ghost use lib.ListN.{length};
+ghost use Rattle.refusal.specs.Limits.{mostB};
 ghost use Rattle.refusal.specs.Table.{answer, none};
 ghost use Rattle.refusal.specs.First.{first};
 ghost use Rattle.logic.specs.declared.Value.the-variants.{Neither, Both};
@@ -111,12 +112,12 @@ fn first_broken(rules: &[u8], count: usize, size: usize) -> usize
     requires { ⌜ count * 10 ≤ length (now rules) ⌝ }
     ensures { λ r. ⌜ r ≡ first (λ k. not (ruleKeeps size (now (rules .entry)) k)) count ⌝ }
 {
-    let mut k = 0;
-    while k < count {
-        if !keeps(rules, k, size) {
-            return k;
+    let mut place = 0;
+    while place < count {
+        if !keeps(rules, place, size) {
+            return place;
         }
-        k += 1;
+        place += 1;
     }
     count
 }
@@ -156,6 +157,14 @@ fn slot_keeps(atom: usize, i: usize, used: usize, size: usize) -> bool
     ensures { λ r. ⌜ r ≡ slotKeeps size used i atom ⌝ }
 {
     if i < used { atom < size } else { atom == 0 }
+}
+
+// B of an image that is accepted.
+pub fn size(program: &[u8]) -> usize
+    requires { ⌜ none (programRows (now program)) ≡ true ⌝ }
+    ensures { λ r. ⌜ (r ≡ sizeOf (now (program .entry))) × (r ≤ mostB) ⌝ }
+{
+    wire::u16_at(program, 2)
 }
 
 // Whether a reading of B values satisfies every rule of an image that is accepted.

@@ -1,5 +1,5 @@
 -- `first_broken` tries the rules from the first on, and before each turn it has not passed the first that breaks row 26. Assumes nothing.
-use mathlib.Core.Path.{_≡_, sym, ap, _∙_}
+use mathlib.Core.Path.{sym, ap, _∙_}
 use mathlib.Core.Bool.{not}
 use Prim.Native.Nat.{_-_, _≤_}
 use borrow.Author.Needs.{needs}
@@ -10,10 +10,10 @@ use Rattle.program.proofs.first_broken.Statement.{statement}
 use Rattle.program.proofs.first_broken.Tie as tie
 
 abbrev Inv-loop : tie.InvT-loop
-Inv-loop rules count size k₀ k = k ≤ first (λ j. not (ruleKeeps size rules j)) count
+Inv-loop rules count size place₀ place = place ≤ first (λ j. not (ruleKeeps size rules j)) count
 
 abbrev μ-loop : tie.MeasureT-loop
-μ-loop rules count size k₀ k = count - k
+μ-loop rules count size place₀ place = count - place
 
 loop-holds : tie.Need-loop-holds Inv-loop μ-loop
 loop-holds c = search needs
@@ -26,8 +26,8 @@ returns c =
     let turn = c .before .before in
     sym (first-here _ _ _ (turn .before .loop .inv) (ap not (sym (c .before .keeps .ensures)) ∙ c .if1 .taken))
 
-add-k : tie.Need-add-k Inv-loop μ-loop
-add-k c = search needs
+add-place : tie.Need-add-place Inv-loop μ-loop
+add-place c = search needs
 
 loop-less : tie.Need-loop-less Inv-loop μ-loop
 loop-less c = search needs
@@ -49,7 +49,7 @@ first-broken-spec =
     loop-holds
     keeps-requires
     returns
-    add-k
+    add-place
     loop-less
     loop-again
     returns-2)

@@ -1,5 +1,5 @@
 -- `value_of` gives the value of an atom: the byte's within the reading, and 0 past its end. Assumes nothing.
-use mathlib.Core.Path.{_≡_, sym, ap, _∙_}
+use mathlib.Core.Path.{sym, ap, _∙_}
 use lib.ListN.{List·getD-map, List·getD-eq-default}
 use denote.Ref.{now}
 use Rattle.logic.specs.Value.{ofByte}
