@@ -224,8 +224,8 @@ fn values_hold(
 {
     let end = heads + positives;
     let used = end + negatives;
-    let last = in_body(second, 1, heads, end, used).and(in_body(third, 2, heads, end, used));
-    let body = in_body(first, 0, heads, end, used).and(last);
+    let others = in_body(second, 1, heads, end, used).and(in_body(third, 2, heads, end, used));
+    let body = in_body(first, 0, heads, end, used).and(others);
     let head = in_head(first, 0, heads).or(in_head(second, 1, heads).or(in_head(third, 2, heads)));
     body.byte() <= head.byte()
 }
@@ -246,12 +246,14 @@ fn in_body(value: Value, i: usize, heads: usize, end: usize, used: usize) -> Val
     choose(i < heads, Value::BOTH, literal)
 }
 
+// One of two values.
 fn choose(test: bool, yes: Value, no: Value) -> Value
     ensures { λ r. ⌜ r ≡ cond test yes no ⌝ }
 {
     if test { yes } else { no }
 }
 
+// A byte as a number.
 fn wide(byte: u8) -> usize
     ensures { λ r. ⌜ (r ≡ byte) × (r < 256) ⌝ }
 {
