@@ -51,6 +51,18 @@ pub answer-refused : (rs qs : List Row) (x y : ℕ) {a : Answer} → a ≡ answe
 answer-refused [] qs x y e h = absurd (h (ap (λ (b : Answer). b .number) e))
 answer-refused (r ∷ rs) qs x y e h = cases (r .applies) (λ t. rw t (rw t at e)) (λ t. rw t (answer-refused rs qs x y (rw t at e) h))
 
+-- a refusal is the same whatever result was wanted
+answer-any : (rs : List Row) (x y : ℕ) {a : Answer} → a ≡ answer rs x → (a .number ≡ 0 → ⊥) → a ≡ answer rs y
+answer-any rs x y e h = rw append-nil at (answer-refused rs [] x y e h)
+
+-- a refusal by later rows stands, where none of the first applies
+pub answer-later : (rs qs : List Row) (x y : ℕ) → none rs ≡ true → {a : Answer} → a ≡ answer qs x → (a .number ≡ 0 → ⊥) → a ≡ answer (rs ++ qs) y
+answer-later rs qs x y n e h = answer-any qs x y e h ∙ sym (answer-past rs qs y n)
+
+-- where none of the first and none of the later rows applies, the result is accepted
+pub answer-both : (rs qs : List Row) (x : ℕ) → none rs ≡ true → none qs ≡ true → answer (rs ++ qs) x ≡ accepted x
+answer-both rs qs x n m = answer-past rs qs x n ∙ answer-none qs x m
+
 -- where rows with numbers of their own give the number 0, none of them applies
 pub none-accepted : (rs : List Row) (x : ℕ) → numbered rs ≡ true → {a : Answer} → a ≡ answer rs x → a .number ≡ 0 → none rs ≡ true
 none-accepted [] x h e z = refl

@@ -1,0 +1,62 @@
+//! The public calls. Each takes any bytes in every slice, trusts no earlier check, and has no `requires`.
+use refusal::Answer;
+ghost use mathlib.Core.Path.{_≡_};
+ghost use Rattle.rulebook.specs.Calls.{yes, checkTheory, evaluateTheory, checkProgram, evaluateProgram};
+
+// Checks a theory image.
+#[no_mangle]
+pub extern "C" fn rulebook_check_theory(theory: &[u8]) -> Answer
+    ensures { λ r. ⌜ r ≡ checkTheory (now (theory .entry)) ⌝ }
+{
+    theory::check(theory)
+}
+
+// Whether a reading, a byte for each atom, satisfies a theory.
+#[no_mangle]
+pub extern "C" fn rulebook_evaluate_theory(theory: &[u8], reading: &[u8]) -> Answer
+    ensures { λ r. ⌜ r ≡ evaluateTheory (now (theory .entry)) (now (reading .entry)) ⌝ }
+{
+    let image = theory::check(theory);
+    if image.number != 0 {
+        return image;
+    }
+    let bytes = refusal::reading(reading, theory::atoms(theory));
+    if bytes.number != 0 {
+        return bytes;
+    }
+    let mut scratch = [0u8; 1024];
+    let holds = theory::satisfied(theory, reading, &mut scratch);
+    refusal::accept(result_of(holds))
+}
+
+// Checks a program image.
+#[no_mangle]
+pub extern "C" fn rulebook_check_program(program: &[u8]) -> Answer
+    ensures { λ r. ⌜ r ≡ checkProgram (now (program .entry)) ⌝ }
+{
+    program::check(program)
+}
+
+// Whether a reading, a byte for each atom and label, satisfies a program.
+#[no_mangle]
+pub extern "C" fn rulebook_evaluate_program(program: &[u8], reading: &[u8]) -> Answer
+    ensures { λ r. ⌜ r ≡ evaluateProgram (now (program .entry)) (now (reading .entry)) ⌝ }
+{
+    let image = program::check(program);
+    if image.number != 0 {
+        return image;
+    }
+    let bytes = refusal::reading(reading, wire::u16_at(program, 2));
+    if bytes.number != 0 {
+        return bytes;
+    }
+    let holds = program::satisfied(program, reading);
+    refusal::accept(result_of(holds))
+}
+
+// The result of a question: 1 for yes, 0 for no.
+fn result_of(holds: bool) -> usize
+    ensures { λ r. ⌜ r ≡ yes holds ⌝ }
+{
+    if holds { 1 } else { 0 }
+}
