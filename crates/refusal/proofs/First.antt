@@ -53,6 +53,14 @@ module _ (number : ℕ) (test : ℕ → Bool) (n k : ℕ) (reached : k ≤ first
   pub firstSuch-end : n ≤ k → answer (firstSuch number test n ∷ rows) x ≡ answer rows x
   firstSuch-end h = rw (first-end test n k reached h, le-ltb n n (omega arith))
 
+-- a scan that gave the first such number: below the bound its row refuses with that place, and at the bound the rows behind decide
+module _ (number : ℕ) (test : ℕ → Bool) (n k : ℕ) (found : k ≡ first test n) (rows : List Row) (x : ℕ) where
+  pub firstSuch-refused : k < n → answer (firstSuch number test n ∷ rows) x ≡ refused number k
+  firstSuch-refused h = rw (← found, lt-ltb k n h)
+
+  pub firstSuch-past : n ≤ k → answer (firstSuch number test n ∷ rows) x ≡ answer rows x
+  firstSuch-past h = rw (← found, le-ltb k n h)
+
 -- that row does not apply exactly if the test fails at every number below the bound
 pub firstSuch-none : (number : ℕ) (test : ℕ → Bool) (n : ℕ) → (firstSuch number test n .applies ≡ false) ↔ ((k : ℕ) → k < n → test k ≡ false)
 firstSuch-none number test n = (

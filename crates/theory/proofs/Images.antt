@@ -1,12 +1,9 @@
 -- Laws of the theory image: what its numbers are, and what an image that no row refuses is like. Each from the definition of its row.
 use mathlib.Core.Path.{_≡_, refl}
 use mathlib.Core.Bool.{false, cond}
-use mathlib.Core.List.{List}
-use Prim.Native.Nat.{ℕ, zero, suc, _-_, _<_}
+use Prim.Native.Nat.{ℕ, zero, suc, _<_}
 use native.Mathlib.Omega.{arith}
 use lib.Dec.{ltb, eqb}
-use lib.ListN.{length, take, drop, length-drop}
-use lib.Seq.{take-all}
 use borrow.Author.Tests.{le-ltb, ne-eqb}
 use Rattle.theory.specs.Book.{impliesKind, leftLimit, rightLimit}
 use Rattle.theory.specs.Image.{kindOf}
@@ -39,7 +36,3 @@ rightLimit-kindOf k (suc (suc (suc (suc (suc zero))))) = refl
 rightLimit-kindOf k (suc (suc (suc (suc (suc (suc b)))))) =
     let byte : ℕ = suc (suc (suc (suc (suc (suc b))))) in
     rw (kindOf-last byte (omega arith), le-ltb byte 4 (omega arith))
-
--- The part of a list from an index to its end, as a slice of it is.
-pub part-to-end : (k : ℕ) (t : List ℕ) → take (length t - k) (drop k t) ≡ drop k t
-part-to-end k t = take-all (length t - k) (drop k t) (rw length-drop (omega arith))

@@ -4,7 +4,7 @@ use mathlib.Core.List.{List, [], _∷_, _++_, append-assoc, append-nil}
 use Prim.Native.Nat.{ℕ, _+_, _-_, _*_, _/_, _%_, _≤_, _<_}
 use native.Mathlib.Omega.{arith}
 use lib.ListN.{length, getD, take, drop, length-append, length-drop, length-take}
-use lib.Seq.{take-length, drop-length, take-append-seam, drop-append-seam, drop-drop, getD-append-add, getD-drop}
+use lib.Seq.{take-all, take-length, drop-length, take-append-seam, drop-append-seam, drop-drop, getD-append-add, getD-drop}
 use borrow.Rule.Slice.PartMut.{putMid}
 use Rattle.wire.specs.Wire.{u16At, u32At, u16Bytes, u32Bytes, Bytes, over}
 
@@ -53,6 +53,12 @@ u32Bytes-u32At s h i =
     let low : u16Bytes (x + y * 65536) ≡ u16Bytes x = ap₂ (λ (a b : ℕ). a ∷ b ∷ []) (omega arith) (omega arith) in
     let high : (x + y * 65536) / 65536 ≡ y = omega (arith, u16At-lt s h i) in
     ap₂ (λ (a b : List ℕ). a ++ b) (low ∙ u16Bytes-u16At s h i) (rw (high, ← last) (u16Bytes-u16At s h (i + 2)))
+
+-- ---- parts of a slice
+
+-- the part from an index to the end, as a slice of it is
+pub part-from : (n : ℕ) (s : List ℕ) → take (length s - n) (drop n s) ≡ drop n s
+part-from n s = take-all (length s - n) (drop n s) (rw length-drop (omega arith))
 
 -- ---- bytes written over the start of others
 

@@ -10,8 +10,9 @@ use Rattle.refusal.specs.Table.{answer}
 use Rattle.refusal.proofs.Table.{answer-refused, answer-accepted, none-accepted}
 use Rattle.theory.specs.Image.{nodeCount, rootCount}
 use Rattle.theory.specs.Rows.{row6, row7, headerRows, theoryRows}
-use Rattle.theory.proofs.Images.{part-to-end}
-use Rattle.theory.proofs.Rows.{numbered-headerRows, firstSuch-refused, firstSuch-past}
+use Rattle.wire.proofs.Laws.{part-from}
+use Rattle.refusal.proofs.First.{firstSuch-refused, firstSuch-past}
+use Rattle.theory.proofs.Rows.{numbered-headerRows}
 use Rattle.theory.proofs.Accepted.{Header, header-accepted}
 use Rattle.theory.proofs.check.Statement.{statement}
 use Rattle.theory.proofs.check.Tie as tie
@@ -35,7 +36,7 @@ nodes-are c = c .before .before .before .nodes .ensures .0
 node-is : (c : tie.After-first-bad-node) → c .first-bad-node .result ≡ row6 (image (c .before .before .before .before)) .place
 node-is c =
     let t = image (c .before .before .before .before) in
-    rw (← c .before .atoms .ensures .0, ← nodes-are c, ← part-to-end 16 t) (c .first-bad-node .ensures)
+    rw (← c .before .atoms .ensures .0, ← nodes-are c, ← part-from 16 t) (c .first-bad-node .ensures)
 
 abbrev to-node : tie.Else2 → tie.After-first-bad-node
 to-node c = c .before
@@ -52,7 +53,7 @@ roots-are c = c .before .before .roots .ensures .0
 root-is : (c : tie.After-first-bad-root) → c .first-bad-root .result ≡ row7 (image (to-header (c .before .before .before))) .place
 root-is c =
     let t = image (to-header (c .before .before .before)) in
-    rw (← roots-are c, ← part-to-end (16 + nodeCount t * 6) t, ← nodes-are (to-node (c .before .before .before))) (c .first-bad-root .ensures)
+    rw (← roots-are c, ← part-from (16 + nodeCount t * 6) t, ← nodes-are (to-node (c .before .before .before))) (c .first-bad-root .ensures)
 
 header-requires : tie.Need-header-requires
 header-requires c κs = search needs
@@ -79,7 +80,7 @@ atoms-requires c κs = is-header (c .before .before) .long
 first-bad-node-requires : tie.Need-first-bad-node-requires
 first-bad-node-requires c κs =
     let head = is-header (c .before .before .before) in
-    rw (part-to-end, length-drop) (omega (arith, head))
+    rw (part-from, length-drop) (omega (arith, head))
 
 refuse-requires : tie.Need-refuse-requires
 refuse-requires c κs = search needs
@@ -112,7 +113,7 @@ part-first-bad-root-end c = search needs
 first-bad-root-requires : tie.Need-first-bad-root-requires
 first-bad-root-requires c κs =
     let head = is-header (to-header (c .before .before)) in
-    rw (part-to-end, length-drop) (omega (arith, head, nodes-are (to-node (c .before .before))))
+    rw (part-from, length-drop) (omega (arith, head, nodes-are (to-node (c .before .before))))
 
 refuse-requires-2 : tie.Need-refuse-requires-2
 refuse-requires-2 c κs = search needs

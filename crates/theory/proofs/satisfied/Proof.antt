@@ -9,7 +9,7 @@ use denote.Ref.{now}
 use borrow.Author.Needs.{needs}
 use Rattle.logic.specs.Formula.{readingOf}
 use Rattle.theory.specs.Image.{rootSection}
-use Rattle.theory.proofs.Images.{part-to-end}
+use Rattle.wire.proofs.Laws.{part-from}
 use Rattle.theory.proofs.Accepted.{Accepted, accepted}
 use Rattle.theory.proofs.Satisfaction.{satisfies-roots}
 use Rattle.theory.proofs.satisfied.Statement.{statement}
@@ -57,8 +57,8 @@ first-untrue-requires c κs =
     let p = c .before .before in
     let a = is-accepted p in
     let call = p .before .before .before .before in (
-      rw (part-to-end, length-drop) (omega (arith, a .header, p .before .nodes .ensures .0, p .roots .ensures .0)),
-      λ i l. rw (part-to-end, section-is p) (omega (arith, a .roots-below i (omega (arith, p .roots .ensures .0)), call .values .kept, start p .pre .1 .1)),
+      rw (part-from, length-drop) (omega (arith, a .header, p .before .nodes .ensures .0, p .roots .ensures .0)),
+      λ i l. rw (part-from, section-is p) (omega (arith, a .roots-below i (omega (arith, p .roots .ensures .0)), call .values .kept, start p .pre .1 .1)),
     )
 
 same-length : tie.Need-same-length
@@ -74,7 +74,7 @@ returns c =
       ← p .roots .ensures .0,
       ← call .values .ensures,
       ← section-is p,
-      ← part-to-end (16 + p .before .nodes .result * 6) (image p),
+      ← part-from (16 + p .before .nodes .result * 6) (image p),
     )
     (ap (λ (r : ℕ). eqb r (p .roots .result)) (c .first-untrue .ensures))
 

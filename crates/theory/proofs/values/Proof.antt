@@ -4,7 +4,7 @@ use lib.ListN.{length-drop}
 use denote.Ref.{now}
 use borrow.Author.Needs.{needs}
 use Rattle.theory.specs.Image.{atomCount, nodeSection}
-use Rattle.theory.proofs.Images.{part-to-end}
+use Rattle.wire.proofs.Laws.{part-from}
 use Rattle.theory.proofs.Accepted.{Accepted, accepted, keeps-fits}
 use Rattle.theory.proofs.NodeValues.{nodeValues-bookOf}
 use Rattle.theory.proofs.values.Statement.{statement}
@@ -31,8 +31,8 @@ write-values-requires c κs =
     let t = now (start .args .theory) in
     let a = is-accepted start in
     let count = c .before .before .nodes .ensures .0 in (
-      (rw (part-to-end, length-drop) (omega (arith, a .header)), omega (arith, start .pre .1 .1)),
-      λ k l. rw (part-to-end, start .pre .1 .0) (keeps-fits (atomCount t) (nodeSection t) k (a .nodes-keep k (omega arith))),
+      (rw (part-from, length-drop) (omega (arith, a .header)), omega (arith, start .pre .1 .1)),
+      λ k l. rw (part-from, start .pre .1 .0) (keeps-fits (atomCount t) (nodeSection t) k (a .nodes-keep k (omega arith))),
     )
 
 same-length : tie.Need-same-length
@@ -43,7 +43,7 @@ returns c =
     let call = c .before .before in
     let read = call .before .before .before in
     let args = read .before .before .before .before .args in
-    rw (nodeValues-bookOf _ _, ← read .nodes .ensures .0, ← part-to-end 16 (now (args .theory))) (call .write-values .ensures)
+    rw (nodeValues-bookOf _ _, ← read .nodes .ensures .0, ← part-from 16 (now (args .theory))) (call .write-values .ensures)
 
 pub values-spec : {M : Type 1} → statement M
 values-spec =

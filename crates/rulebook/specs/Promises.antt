@@ -1,0 +1,125 @@
+-- What is promised, in document 01's order. Each statement uses only definitions of specs/, and each proof cites the law behind it.
+use mathlib.Core.Path.{_≡_, refl, sym, _∙_}
+use mathlib.Core.Logic.{_↔_}
+use mathlib.Core.Bool.{Bool, true, not}
+use mathlib.Core.List.{List, [], _∷_, _++_, map, List·Memᴰ}
+use Prim.Native.Nat.{ℕ, suc, _≤_, _<_}
+use lib.Dec.{ltb}
+use lib.ListN.{length, take}
+use Rattle.refusal.specs.declared.Answer.{Answer}
+use Rattle.refusal.specs.Table.{none, Exact}
+use Rattle.refusal.specs.First.{FirstAt}
+use Rattle.refusal.specs.Rows.{argumentRows}
+use Rattle.refusal.proofs.Table.{answer-exact}
+use Rattle.refusal.proofs.First.{firstSuch-first}
+use Rattle.logic.specs.declared.Value.the-variants.{Both}
+use Rattle.logic.specs.Value.{number, negation}
+use Rattle.logic.specs.Formula.{Formula, Reading, readingOf, valueOf, value, satisfies, AllOver}
+use Rattle.logic.specs.Atoms.{Atoms, hereOf, thereOf}
+use Rattle.logic.specs.HereAndThere.{here, there, truth, Equilibrium}
+use Rattle.logic.specs.AnswerSet.{AnswerSet, answerSets}
+use Rattle.logic.proofs.Worlds
+use Rattle.logic.proofs.AnswerSets
+use Rattle.theory.specs.Book.{Book, nodeAt, impliesKind, WellFormed, formulaAt, nodeFormulas, bookFormulas}
+use Rattle.theory.specs.BenchCases.{BenchCase, benchCases, atomsFrom, setsOf}
+use Rattle.theory.specs.Image.{atomCount, nodeCount, rootCount, nodeSection, rootSection, nodeKeeps, rootIn, bookOf}
+use Rattle.theory.specs.Rows.{row6, row7, headerRows, theoryRows}
+use Rattle.theory.proofs.Rows.{numbered-theoryRows}
+use Rattle.theory.proofs.Accepted
+use Rattle.theory.proofs.BenchCases as books
+use Rattle.program.specs.Program.{Program, satisfiesProgram, programFormulas}
+use Rattle.program.specs.Image.{sizeOf, ruleCount, ruleSection, ruleKeeps, programOf, imageOf}
+use Rattle.program.specs.Rows.{row26, programRows}
+use Rattle.program.proofs.Accepted as program-accepted
+use Rattle.translation.specs.Table.{labelCount}
+use Rattle.translation.specs.Flat.{flat}
+use Rattle.translation.specs.Extension.{extend, Extends, firstLabel}
+use Rattle.translation.specs.OneToOne.{OneToOne}
+use Rattle.translation.proofs.Extensions
+use Rattle.translation.proofs.Demand3
+use Rattle.translation.proofs.BenchCases as programs
+use Rattle.rulebook.specs.Calls.{yes, checkTheory, evaluateTheoryRows, evaluateTheory, checkProgram, evaluateProgramRows, evaluateProgram}
+
+-- Demand 1: no two outcomes meet a call's contract, and each row's number is given exactly where that row applies and no earlier one does.
+
+checkTheory-unique : (t : List ℕ) (a b : Answer) → a ≡ checkTheory t → b ≡ checkTheory t → a ≡ b
+checkTheory-unique t a b p q = p ∙ sym q
+
+checkTheory-exact : (t : List ℕ) → Exact (theoryRows t) 1 (checkTheory t)
+checkTheory-exact t = answer-exact (theoryRows t) 1 (numbered-theoryRows t)
+
+evaluateTheory-unique : (t r : List ℕ) (a b : Answer) → a ≡ evaluateTheory t r → b ≡ evaluateTheory t r → a ≡ b
+evaluateTheory-unique t r a b p q = p ∙ sym q
+
+evaluateTheory-exact : (t r : List ℕ) → Exact (evaluateTheoryRows t r) (yes (satisfies (readingOf r) (bookFormulas (bookOf t)))) (evaluateTheory t r)
+evaluateTheory-exact t r = unfold theoryRows headerRows argumentRows in answer-exact (evaluateTheoryRows t r) _ refl
+
+checkProgram-unique : (p : List ℕ) (a b : Answer) → a ≡ checkProgram p → b ≡ checkProgram p → a ≡ b
+checkProgram-unique p a b e f = e ∙ sym f
+
+checkProgram-exact : (p : List ℕ) → Exact (programRows p) 1 (checkProgram p)
+checkProgram-exact p = answer-exact (programRows p) 1 (program-accepted.numbered-programRows p)
+
+evaluateProgram-unique : (p r : List ℕ) (a b : Answer) → a ≡ evaluateProgram p r → b ≡ evaluateProgram p r → a ≡ b
+evaluateProgram-unique p r a b e f = e ∙ sym f
+
+evaluateProgram-exact : (p r : List ℕ) → Exact (evaluateProgramRows p r) (yes (satisfiesProgram (readingOf r) (programOf p))) (evaluateProgram p r)
+evaluateProgram-exact p r = unfold programRows argumentRows in answer-exact (evaluateProgramRows p r) _ refl
+
+-- The place of 6 is the first such node, that of 7 the first such root, that of 26 the first such rule.
+
+row6-first : (t : List ℕ) → row6 t .applies ≡ true → FirstAt (λ k. not (nodeKeeps (atomCount t) (nodeSection t) k)) (nodeCount t) (row6 t .place)
+row6-first t = firstSuch-first 6 (λ k. not (nodeKeeps (atomCount t) (nodeSection t) k)) (nodeCount t)
+
+row7-first : (t : List ℕ) → row7 t .applies ≡ true → FirstAt (λ i. not (ltb (rootIn (rootSection t) i) (nodeCount t))) (rootCount t) (row7 t .place)
+row7-first t = firstSuch-first 7 (λ i. not (ltb (rootIn (rootSection t) i) (nodeCount t))) (rootCount t)
+
+row26-first : (p : List ℕ) → row26 p .applies ≡ true → FirstAt (λ k. not (ruleKeeps (sizeOf p) (ruleSection p) k)) (ruleCount p) (row26 p .place)
+row26-first p = firstSuch-first 26 (λ k. not (ruleKeeps (sizeOf p) (ruleSection p) k)) (ruleCount p)
+
+-- An accepted image is a well-formed book.
+accepted-book : (t : List ℕ) → none (theoryRows t) ≡ true → WellFormed (bookOf t)
+accepted-book = Accepted.accepted-wellFormed
+
+-- Demand 2: truth is here-and-there's, answer sets are the equilibrium models.
+
+value-here : (I : Reading) (f : Formula) → (value I f ≡ Both) ↔ (truth (hereOf I) (thereOf I) here f ≡ true)
+value-here = Worlds.value-here
+
+value-there : (I : Reading) (f : Formula) → (1 ≤ number (value I f)) ↔ (truth (hereOf I) (thereOf I) there f ≡ true)
+value-there = Worlds.value-there
+
+equilibrium : (n : ℕ) (Γ : List Formula) (T : Atoms) → AnswerSet n Γ T ↔ Equilibrium n Γ T
+equilibrium = AnswerSets.equilibrium-iff
+
+-- Demand 3, over the definitions.
+
+module _ (b : Book) (ok : WellFormed b) where
+  satisfied : (I : Reading) → length I ≡ b .atoms
+      → (satisfies I (bookFormulas b) ≡ true) ↔ ((J : Reading) × Extends b I J × (satisfiesProgram J (flat b) ≡ true))
+  satisfied = Demand3.satisfied-iff b ok
+
+  only-one : (I J : Reading) → Extends b I J → satisfiesProgram J (flat b) ≡ true → J ≡ extend b I
+  only-one = Demand3.extension-only b ok
+
+  label-L : (I : Reading) → length I ≡ b .atoms → (k : ℕ) → k < length (b .nodes) → 0 < labelCount (nodeAt (b .nodes) k .kind)
+      → valueOf (extend b I) (firstLabel b k) ≡ value I (formulaAt (nodeFormulas b) k)
+  label-L = Extensions.label-L b ok
+
+  label-M : (I : Reading) → length I ≡ b .atoms → (k : ℕ) → k < length (b .nodes) → nodeAt (b .nodes) k .kind ≡ impliesKind
+      → valueOf (extend b I) (suc (firstLabel b k)) ≡ negation (value I (formulaAt (nodeFormulas b) (nodeAt (b .nodes) k .right)))
+  label-M = Extensions.label-M b ok
+
+  one-to-one : (Γ : List Formula) → AllOver (b .atoms) Γ
+      → OneToOne (b .atoms) (flat b .size) (bookFormulas b ++ Γ) (programFormulas (flat b) ++ Γ)
+  one-to-one = Demand3.one-to-one b ok
+
+-- P1 to P9: one table, one claim; and the same of their flat programs, labels dropped.
+
+cases : map (λ c. setsOf (c .theory)) benchCases ≡ map (λ c. c .sets) benchCases
+cases = books.benchCases-sets
+
+program-cases : (c : BenchCase) → List·Memᴰ c benchCases → (s : List ℕ)
+    → List·Memᴰ s (c .sets)
+    ↔ ((U : Atoms) × AnswerSet (flat (c .theory) .size) (programFormulas (flat (c .theory))) U × (atomsFrom 0 (take (c .theory .atoms) U) ≡ s))
+program-cases = programs.benchCases-programs

@@ -1,0 +1,72 @@
+/*
+ * rulebook: the public calls of the verified rule book translator.
+ *
+ * A slice is passed as a pointer and a length. The pointer must be valid for that
+ * many bytes and, where the length is 0, any non-null address; the bytes may be
+ * anything. No call keeps a pointer, allocates, prints or fails otherwise than by
+ * its answer, and no call trusts an earlier one. An output must not overlap an input.
+ *
+ * An answer with number 0 accepts: its place is 0 and its result is the call's.
+ * Any other number refuses: its place says where, its result is 0, and every byte
+ * of an output is as it was. On acceptance the bytes past the written part are as
+ * they were.
+ *
+ *  number  refused because                                     place
+ *  1       theory shorter than 16 bytes                        0
+ *  2       A, N or R over its limit (1,024, 1,024, 256)        0
+ *  3       bytes 6-7 of the theory not zero                    0
+ *  4       an offset of the theory differs                     0
+ *  5       length of the theory differs                        length wanted
+ *  6       a node breaks its row, or its zero byte is not 0    first such node
+ *  7       a root is not below N                               first such root's index
+ *  8       output shorter than needed                          bytes needed
+ *  9       reading's length is not the atom count              count wanted
+ *  10      a byte over 2; for a candidate also a byte 1        first such index
+ *  11      over 16 true atoms; for a listing A over 12         that number
+ *  14      B would be over 3,072                               B
+ *  21      program shorter than 16 bytes                       0
+ *  22      A, B or K outside its limits (1,024, 3,072, 6,400)  0
+ *  23      bytes 6-7 of the program not zero                   0
+ *  24      rule offset or total length field differs           0
+ *  25      length of the program differs from the total        length wanted
+ *  26      a rule is malformed                                 first such rule
+ */
+#ifndef RULEBOOK_H
+#define RULEBOOK_H
+
+#include <stddef.h>
+#include <stdint.h>
+
+#ifdef __cplusplus
+extern "C" {
+#endif
+
+struct rulebook_answer {
+    uint32_t number;
+    size_t place;
+    size_t result;
+};
+
+/* Checks a theory image. Rows 1-7. Result: 1. */
+struct rulebook_answer rulebook_check_theory(
+    const uint8_t *theory, size_t theory_length);
+
+/* Whether a reading, a byte 0, 1 or 2 for each of the A atoms, satisfies a theory. Rows 1-7, 9, 10. Result: 1 or 0. */
+struct rulebook_answer rulebook_evaluate_theory(
+    const uint8_t *theory, size_t theory_length,
+    const uint8_t *reading, size_t reading_length);
+
+/* Checks a program image. Rows 21-26. Result: 1. */
+struct rulebook_answer rulebook_check_program(
+    const uint8_t *program, size_t program_length);
+
+/* Whether a reading, a byte 0, 1 or 2 for each of the B atoms and labels, satisfies a program. Rows 21-26, 9, 10. Result: 1 or 0. */
+struct rulebook_answer rulebook_evaluate_program(
+    const uint8_t *program, size_t program_length,
+    const uint8_t *reading, size_t reading_length);
+
+#ifdef __cplusplus
+}
+#endif
+
+#endif
