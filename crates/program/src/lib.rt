@@ -141,7 +141,7 @@ fn used_in(rules: &[u8], k: usize) -> usize
     ensures { λ r. ⌜ r ≡ usedIn (now (rules .entry)) k ⌝ }
 {
     let at = k * 10;
-    wide(rules[at]) + wide(rules[at + 1]) + wide(rules[at + 2])
+    wire::wide(rules[at]) + wire::wide(rules[at + 1]) + wire::wide(rules[at + 2])
 }
 
 // Whether each of the three slots keeps its part in a rule of `used` literals.
@@ -190,9 +190,9 @@ fn rule_holds(rules: &[u8], k: usize, reading: &[u8]) -> bool
     ensures { λ r. ⌜ r ≡ holds (valueOf (readingOf (now (reading .entry)))) (ruleIn (now (rules .entry)) k) ⌝ }
 {
     let at = k * 10;
-    let heads = wide(rules[at]);
-    let positives = wide(rules[at + 1]);
-    let negatives = wide(rules[at + 2]);
+    let heads = wire::wide(rules[at]);
+    let positives = wire::wide(rules[at + 1]);
+    let negatives = wire::wide(rules[at + 2]);
     let first = value_of(reading, wire::u16_at(rules, at + 4));
     let second = value_of(reading, wire::u16_at(rules, at + 6));
     let third = value_of(reading, wire::u16_at(rules, at + 8));
@@ -251,11 +251,4 @@ fn choose(test: bool, yes: Value, no: Value) -> Value
     ensures { λ r. ⌜ r ≡ cond test yes no ⌝ }
 {
     if test { yes } else { no }
-}
-
-// A byte as a number.
-fn wide(byte: u8) -> usize
-    ensures { λ r. ⌜ (r ≡ byte) × (r < 256) ⌝ }
-{
-    byte as usize
 }

@@ -20,7 +20,8 @@ pub fn u32_at(s: &[u8], i: usize) -> usize
     u16_at(s, i) + u16_at(s, i + 2) * 65536
 }
 
-fn wide(byte: u8) -> usize
+// A byte as a number.
+pub fn wide(byte: u8) -> usize
     ensures { λ r. ⌜ (r ≡ byte) × (r < 256) ⌝ }
 {
     byte as usize

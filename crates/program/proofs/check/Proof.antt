@@ -11,7 +11,7 @@ use borrow.Author.Tests.{lt-ltb, le-ltb, eq-eqb, ne-eqb, eqb-true, not-false}
 use Rattle.refusal.specs.Table.{Row, refused, answer}
 use Rattle.program.specs.Image.{ruleCount}
 use Rattle.program.specs.Rows.{row21, row22, row23, row24, row25, row26, programRows}
-use Rattle.program.proofs.Sections.{part-from}
+use Rattle.wire.proofs.Laws.{part-from}
 use borrow.Author.Needs.{needs}
 use Rattle.program.proofs.check.Statement.{statement}
 use Rattle.program.proofs.check.Tie as tie

@@ -13,7 +13,7 @@ use Rattle.logic.specs.Formula.{readingOf, valueOf}
 use Rattle.program.specs.Rule.{allHold}
 use Rattle.program.specs.Image.{sizeOf, ruleCount, ruleSection, ruleIn, programOf}
 use Rattle.program.proofs.Rules.{allHold-more, allHold-broken}
-use Rattle.program.proofs.Sections.{part-from}
+use Rattle.wire.proofs.Laws.{part-from}
 use Rattle.program.proofs.Accepted.{Accepted, none-programRows, ruleKeeps-true}
 use Rattle.program.proofs.satisfied.Statement.{statement}
 use Rattle.program.proofs.satisfied.Tie as tie

@@ -1,0 +1,79 @@
+-- `run` is safe and ends: each turn passes a line and its line feed. Assumes nothing.
+use Prim.Native.Nat.{_+_, _-_, _≤_}
+use lib.ListN.{length}
+use borrow.Author.Needs.{needs}
+use Rattle.cases.proofs.run.Statement.{statement}
+use Rattle.cases.proofs.run.Tie as tie
+
+abbrev Inv-loop : tie.InvT-loop
+Inv-loop script number₀ at₀ number at = (at ≤ length script + 1) × (number ≤ at + 1)
+
+abbrev μ-loop : tie.MeasureT-loop
+μ-loop script number₀ at₀ number at = length script + 1 - at
+
+loop-holds : tie.Need-loop-holds Inv-loop μ-loop
+loop-holds c = search needs
+
+sub-rest : tie.Need-sub-rest Inv-loop μ-loop
+sub-rest c = search needs
+
+part-rest-start : tie.Need-part-rest-start Inv-loop μ-loop
+part-rest-start c = search needs
+
+part-rest-end : tie.Need-part-rest-end Inv-loop μ-loop
+part-rest-end c = search needs
+
+find-requires : tie.Need-find-requires Inv-loop μ-loop
+find-requires c κs = search needs
+
+sub-run-line : tie.Need-sub-run-line Inv-loop μ-loop
+sub-run-line c = search needs
+
+part-run-line-start : tie.Need-part-run-line-start Inv-loop μ-loop
+part-run-line-start c = search needs
+
+part-run-line-end : tie.Need-part-run-line-end Inv-loop μ-loop
+part-run-line-end c = search needs
+
+run-line-requires : tie.Need-run-line-requires Inv-loop μ-loop
+run-line-requires c κs = search needs
+
+add-number : tie.Need-add-number Inv-loop μ-loop
+add-number c = search needs
+
+add-at : tie.Need-add-at Inv-loop μ-loop
+add-at c = search needs
+
+add-at-2 : tie.Need-add-at-2 Inv-loop μ-loop
+add-at-2 c = search needs
+
+loop-less : tie.Need-loop-less Inv-loop μ-loop
+loop-less c = search needs
+
+loop-again : tie.Need-loop-again Inv-loop μ-loop
+loop-again c = search needs
+
+returns : tie.Need-returns Inv-loop μ-loop
+returns c = search needs
+
+pub run-spec : {M : Type 1} → statement M
+run-spec =
+    tie.close
+    (tie.spec
+    Inv-loop
+    μ-loop
+    loop-holds
+    sub-rest
+    part-rest-start
+    part-rest-end
+    find-requires
+    sub-run-line
+    part-run-line-start
+    part-run-line-end
+    run-line-requires
+    add-number
+    add-at
+    add-at-2
+    loop-less
+    loop-again
+    returns)
