@@ -1,0 +1,115 @@
+-- A candidate's bytes are those of the reading of its set, since each of them is 0 or 2. By induction on the bytes.
+use mathlib.Core.Path.{_≡_, refl, ap, ap₂, _∙_}
+use mathlib.Core.Bool.{Bool, true, false, cond, true≢false}
+use mathlib.Core.List.{List, [], _∷_, _++_}
+use Prim.Native.Nat.{ℕ, zero, suc, _+_, _/_, _%_, _*_, _≤_, _<_}
+use native.Mathlib.Numerals.{add-one}
+use native.Mathlib.Omega.{arith}
+use lib.Dec.{eqb}
+use lib.ListN.{length, getD, length-map, take, drop, set}
+use lib.Seq.{drop-cons, take-suc-set, append-snoc}
+use borrow.Author.Tests.{lt-ltb, eq-eqb}
+use Rattle.refusal.specs.Table.{none}
+use Rattle.refusal.specs.Rows.{wrong, countTrue, argumentRows, candidateRows}
+use Rattle.refusal.proofs.Table.{cases}
+use Rattle.refusal.proofs.First.{firstSuch-none}
+use Rattle.logic.specs.Value.{number, ofByte, trueHere}
+use Rattle.logic.specs.Formula.{Reading, readingOf}
+use Rattle.logic.specs.Atoms.{Atoms, mark, reading, hereOf}
+use Rattle.logic.proofs.Values.{ofByte-number}
+use Rattle.logic.proofs.Sets.{inside-refl, hereOf-reading, length-reading}
+use Rattle.stable.specs.Subset.{setOf, bytesOf, candidateOf, size, odd, subset, Candidate, lowered}
+use Rattle.stable.specs.Number.{setOfNumber}
+use Rattle.stable.proofs.Digits.{digit-odd}
+
+pub length-setOf : (bytes : List ℕ) → length (setOf bytes) ≡ length bytes
+length-setOf bytes = length-map (readingOf bytes) trueHere ∙ length-map bytes ofByte
+
+pub readingOf-bytesOf : (I : Reading) → readingOf (bytesOf I) ≡ I
+readingOf-bytesOf [] = refl
+readingOf-bytesOf (v ∷ I) = ap₂ (λ x l. x ∷ l) (ofByte-number v) (readingOf-bytesOf I)
+
+-- What holds of 0 and of 2 holds of a byte that is not wrong.
+candidate-byte : (P : ℕ → Type 0) → P 0 → P 2 → (b : ℕ) → wrong true b ≡ false → P b
+candidate-byte P none two zero h = none
+candidate-byte P none two (suc zero) h = absurd (true≢false h)
+candidate-byte P none two (suc (suc zero)) h = two
+candidate-byte P none two (suc (suc (suc b))) h = absurd (true≢false (rw (lt-ltb 2 (suc (suc (suc b))) (omega arith)) at h))
+
+candidate-tail : (b : ℕ) (bytes : List ℕ) → Candidate (b ∷ bytes) → Candidate bytes
+candidate-tail b bytes h i l = h (suc i) (omega arith)
+
+-- A candidate is the reading of its set, and its bytes 2 are the atoms of the set.
+pub candidate-reading : (bytes : List ℕ) → Candidate bytes → readingOf bytes ≡ reading (setOf bytes) (setOf bytes)
+candidate-reading [] h = refl
+candidate-reading (b ∷ bytes) h = ap₂ (λ x l. x ∷ l)
+    (candidate-byte (λ b. ofByte b ≡ mark (trueHere (ofByte b)) (trueHere (ofByte b))) refl refl b (h 0 (omega arith)))
+    (candidate-reading bytes (candidate-tail b bytes h))
+
+pub candidate-size : (bytes : List ℕ) → Candidate bytes → size (setOf bytes) ≡ countTrue bytes
+unfolding size countTrue
+candidate-size [] h = refl
+candidate-size (b ∷ bytes) h =
+    candidate-byte (λ b. size (trueHere (ofByte b) ∷ setOf bytes) ≡ cond (eqb b 2) (suc (countTrue bytes)) (countTrue bytes))
+    (candidate-size bytes (candidate-tail b bytes h)) (ap suc (candidate-size bytes (candidate-tail b bytes h))) b (h 0 (omega arith))
+
+-- Rows 9 and 10 accept a candidate of n atoms.
+pub candidate-accepted : (n : ℕ) (bytes : List ℕ) → length bytes ≡ n → Candidate bytes → none (candidateRows n bytes) ≡ true
+unfolding argumentRows
+candidate-accepted n bytes e h = rw (eq-eqb (length bytes) n e, firstSuch-none 10 (λ i. wrong true (getD bytes i 0)) (length bytes) .1 h)
+
+pub countTrue-le : (bytes : List ℕ) → countTrue bytes ≤ length bytes
+unfolding countTrue
+countTrue-le [] = omega arith
+countTrue-le (b ∷ bytes) = cases (eqb b 2) (λ t. rw t (omega (arith, countTrue-le bytes))) (λ t. rw t (omega (arith, countTrue-le bytes)))
+
+-- The candidate of a set is one, and its set is that set.
+pub candidateOf-candidate : (T : Atoms) → Candidate (candidateOf T)
+unfolding candidateOf
+candidateOf-candidate [] i h = absurd (omega arith)
+candidateOf-candidate (t ∷ T) zero h = elim t [ true ↦ refl | false ↦ refl ]
+candidateOf-candidate (t ∷ T) (suc i) h = candidateOf-candidate T i (omega arith)
+
+pub setOf-candidateOf : (T : Atoms) → setOf (candidateOf T) ≡ T
+unfolding candidateOf
+setOf-candidateOf T = ap hereOf (readingOf-bytesOf (reading T T)) ∙ hereOf-reading T T (inside-refl T)
+
+pub length-candidateOf : (T : Atoms) → length (candidateOf T) ≡ length T
+unfolding candidateOf
+length-candidateOf T = length-map (reading T T) number ∙ length-reading T
+
+-- The byte of the lowest atom, and the number that is left for the others.
+pub candidateOf-number : (n c : ℕ) → candidateOf (setOfNumber (suc n) c) ≡ c % 2 * 2 ∷ candidateOf (setOfNumber n (c / 2))
+unfolding candidateOf setOfNumber
+candidateOf-number n c = ap (λ b. b ∷ candidateOf (setOfNumber n (c / 2))) (marked (odd c) ∙ ap (λ d. d * 2) (digit-odd c))
+  where
+    marked : (b : Bool) → number (mark b b) ≡ cond b 1 0 * 2
+    marked true = refl
+    marked false = refl
+
+-- The smaller readings.
+
+pub lowered-reading : (bytes : List ℕ) (m : ℕ) → readingOf (lowered bytes m) ≡ reading (subset (setOf bytes) m) (setOf bytes)
+unfolding lowered
+lowered-reading bytes m = readingOf-bytesOf (reading (subset (setOf bytes) m) (setOf bytes))
+
+lowered-cons : (b : ℕ) (bytes : List ℕ) (m : ℕ) → wrong true b ≡ false
+    → lowered (b ∷ bytes) m ≡ cond (eqb b 2) ((1 + m % 2) ∷ lowered bytes (m / 2)) (0 ∷ lowered bytes m)
+unfolding lowered subset
+lowered-cons b bytes m =
+    candidate-byte (λ b. lowered (b ∷ bytes) m ≡ cond (eqb b 2) ((1 + m % 2) ∷ lowered bytes (m / 2)) (0 ∷ lowered bytes m))
+    refl (ap (λ d. d ∷ lowered bytes (m / 2)) (marked (odd m) ∙ ap (λ d. 1 + d) (digit-odd m))) b
+  where
+    marked : (b : Bool) → number (mark b true) ≡ 1 + cond b 1 0
+    marked true = refl
+    marked false = refl
+
+-- From an index on: what the byte there becomes, and the number that is left for the bytes behind it.
+module _ (bytes : List ℕ) (h : Candidate bytes) (i m : ℕ) (l : i < length bytes) where
+  pub lowered-drop : lowered (drop i bytes) m ≡ cond (eqb (getD bytes i 0) 2) ((1 + m % 2) ∷ lowered (drop (i + 1) bytes) (m / 2)) (0 ∷ lowered (drop (i + 1) bytes) m)
+  lowered-drop = rw (drop-cons bytes i 0 l, add-one) (lowered-cons (getD bytes i 0) (drop (suc i) bytes) m (h i l))
+
+-- A byte written where the unwritten rest begins.
+pub next-byte : (out : List ℕ) (i byte : ℕ) (rest all : List ℕ) {old : List ℕ} → i < length out → take i out ++ old ≡ all → old ≡ byte ∷ rest
+    → take (i + 1) (set out i byte) ++ rest ≡ all
+next-byte out i byte rest all l w e = rw (add-one, take-suc-set out i byte l, append-snoc) (rw e at w)

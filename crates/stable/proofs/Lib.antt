@@ -1,0 +1,7 @@
+pub mod Digits
+pub mod Subsets
+pub mod Numbers
+pub mod Listings
+pub mod Candidates
+pub mod Tests
+pub mod Bitmaps

@@ -1,0 +1,63 @@
+-- The candidate test: what the readings that are tried say of the candidate's set. Each from the law of the numbered subsets.
+use mathlib.Core.Path.{_≡_, sym, ap, _∙_}
+use mathlib.Core.Logic.{_↔_}
+use mathlib.Core.Bool.{Bool, true, false}
+use mathlib.Core.List.{List}
+use Prim.Native.Nat.{ℕ, _-_, _^_, _≤_, _<_}
+use native.Mathlib.Omega.{arith}
+use lib.ListN.{length}
+use Rattle.refusal.specs.Limits.{mostB}
+use Rattle.refusal.specs.Table.{none}
+use Rattle.refusal.specs.Rows.{countTrue}
+use Rattle.refusal.proofs.Rows.{none-argumentRows}
+use Rattle.logic.specs.Formula.{readingOf, satisfies}
+use Rattle.logic.specs.Atoms.{reading}
+use Rattle.logic.specs.AnswerSet.{isAnswerSet}
+use Rattle.logic.proofs.Bools.{false-of, not-both}
+use Rattle.program.proofs.Accepted.{none-programRows}
+use Rattle.theory.proofs.Accepted.{accepted}
+use Rattle.stable.specs.Image.{imageRows, atomsOf, formulasOf, Testable}
+use Rattle.stable.specs.Subset.{setOf, subset, Candidate, lowered}
+use Rattle.stable.proofs.Subsets.{isAnswerSet-subsets}
+use Rattle.stable.proofs.Candidates.{length-setOf, candidate-reading, candidate-size, lowered-reading}
+
+-- The smaller reading with the number m satisfies.
+abbrev pub smaller : Bool → (image candidate : List ℕ) → ℕ → Bool
+smaller program image candidate m = satisfies (readingOf (lowered candidate m)) (formulasOf program image)
+
+module _ (program : Bool) (image candidate : List ℕ) (t : Testable program image candidate) where
+  pub testable-length : length candidate ≡ atomsOf program image
+  testable-length = none-argumentRows true (atomsOf program image) candidate (t .accepted) .0
+
+  pub testable-candidate : Candidate candidate
+  testable-candidate = none-argumentRows true (atomsOf program image) candidate (t .accepted) .1
+
+  -- It has at most the atoms of the largest program.
+  pub testable-short : length candidate ≤ mostB
+  testable-short = rw testable-length (few program (t .checked))
+    where
+      few : (program : Bool) → none (imageRows program image) ≡ true → atomsOf program image ≤ mostB
+      few true h = none-programRows image h .inside .size
+      few false h = omega (arith, accepted image h .header .few-atoms)
+
+  -- A candidate is an answer set exactly if it satisfies and no smaller reading does.
+  pub answer-iff : (isAnswerSet (atomsOf program image) (formulasOf program image) (setOf candidate) ≡ true)
+      ↔ ((satisfies (readingOf candidate) (formulasOf program image) ≡ true) × ((m : ℕ) → m < 2 ^ countTrue candidate - 1 → smaller program image candidate m ≡ false))
+  answer-iff =
+      let law = isAnswerSet-subsets (atomsOf program image) (formulasOf program image) (setOf candidate) (length-setOf candidate ∙ testable-length) in
+      let same : (m : ℕ) → smaller program image candidate m ≡ satisfies (reading (subset (setOf candidate) m) (setOf candidate)) (formulasOf program image)
+      = λ m. ap (λ I. satisfies I (formulasOf program image)) (lowered-reading candidate m) in
+      let whole : satisfies (readingOf candidate) (formulasOf program image) ≡ satisfies (reading (setOf candidate) (setOf candidate)) (formulasOf program image)
+      = ap (λ I. satisfies I (formulasOf program image)) (candidate-reading candidate testable-candidate) in
+      let count = candidate-size candidate testable-candidate in (
+        λ h. let s = law .0 h in (whole ∙ s .0, λ m l. same m ∙ s .1 m (rw count l)),
+        λ h. law .1 (sym whole ∙ h .0, λ m l. sym (same m) ∙ h .1 m (rw (← count) l)),
+      )
+
+  -- So one that does not satisfy is none, and neither is one with a smaller reading that does.
+  pub answer-unsatisfied : satisfies (readingOf candidate) (formulasOf program image) ≡ false → isAnswerSet (atomsOf program image) (formulasOf program image) (setOf candidate) ≡ false
+  answer-unsatisfied f = false-of _ (λ h. not-both f (answer-iff .0 h .0))
+
+  pub answer-smaller : (m : ℕ) → m < 2 ^ countTrue candidate - 1 → smaller program image candidate m ≡ true
+      → isAnswerSet (atomsOf program image) (formulasOf program image) (setOf candidate) ≡ false
+  answer-smaller m l s = false-of _ (λ h. not-both (answer-iff .0 h .1 m l) s)

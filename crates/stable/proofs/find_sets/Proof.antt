@@ -1,0 +1,92 @@
+-- `find_sets` sets eight bits a turn: before each turn the bits below i * 8 are right. Assumes nothing.
+use mathlib.Core.Path.{_≡_, refl, ap, _∙_}
+use Prim.Native.Nat.{ℕ, _-_, _*_, _^_, _≤_, _<_}
+use native.Mathlib.Omega.{arith}
+use lib.ListN.{length, length-set}
+use lib.Pow.{pow-mono}
+use denote.Ref.{now}
+use borrow.Author.Needs.{needs}
+use Rattle.theory.specs.Image.{atomCount}
+use Rattle.stable.specs.Bitmap.{bitAt, isListed}
+use Rattle.stable.proofs.Bitmaps.{bitAt-set}
+use Rattle.stable.proofs.find_sets.Statement.{statement}
+use Rattle.stable.proofs.find_sets.Tie as tie
+
+abbrev Inv-loop : tie.InvT-loop
+Inv-loop theory room₀ found₀ sets i₀ room found i =
+    ((c : ℕ) → c < i * 8 → bitAt found c ≡ isListed theory c)
+    × (sets ≡ 2 ^ atomCount theory)
+    × (sets ≤ 4096)
+    × (i ≤ 512)
+    × (length room ≡ length room₀)
+    × (length found ≡ 512)
+
+abbrev μ-loop : tie.MeasureT-loop
+μ-loop theory room₀ found₀ sets i₀ room found i = 512 - i
+
+two-to-requires : tie.Need-two-to-requires Inv-loop μ-loop
+two-to-requires c κs = search needs
+
+loop-holds : tie.Need-loop-holds Inv-loop μ-loop
+loop-holds c =
+    let start = c .before .before .before in
+    let e : c .two-to .result ≡ 2 ^ atomCount (now (start .args .theory)) = c .two-to .ensures .0 ∙ ap (λ n. 2 ^ n) (start .pre .0 .sized) in
+    (λ k l. absurd (omega arith), e, rw e (pow-mono {j = 12} (start .pre .0 .few)), search needs, refl, start .pre .1)
+
+mul-loop : tie.Need-mul-loop Inv-loop μ-loop
+mul-loop c = search needs
+
+mul-eight : tie.Need-mul-eight Inv-loop μ-loop
+mul-eight c = search needs
+
+eight-requires : tie.Need-eight-requires Inv-loop μ-loop
+eight-requires c κs =
+    let loop = c .before .before in
+    let listable = loop .before .before .before .before .pre .0 in
+    (record { checked = listable .checked; sized = loop .loop .inv .4 ∙ listable .sized; few = listable .few }, search needs)
+
+element-write-found : tie.Need-element-write-found Inv-loop μ-loop
+element-write-found c = search needs
+
+add-i : tie.Need-add-i Inv-loop μ-loop
+add-i c = search needs
+
+loop-less : tie.Need-loop-less Inv-loop μ-loop
+loop-less c = search needs
+
+loop-again : tie.Need-loop-again Inv-loop μ-loop
+loop-again c =
+    let loop = c .before .before .before .before .before in
+    let start = loop .before .before .before .before in
+    let test = isListed (now (start .args .theory)) in (
+      rw (c .before .before .eight .ensures) (bitAt-set test (loop .loop .found) (loop .loop .i) (omega arith) (loop .loop .inv .0)),
+      search needs,
+      search needs,
+      search needs,
+      omega (arith, c .before .before .eight .kept .1 .1 .0),
+      simp length-set (search needs),
+    )
+
+same-length : tie.Need-same-length Inv-loop μ-loop
+same-length c = search needs
+
+returns : tie.Need-returns Inv-loop μ-loop
+returns c = λ k l. c .before .loop .inv .0 k (omega arith)
+
+pub find-sets-spec : {M : Type 1} → statement M
+find-sets-spec =
+    tie.close
+    (tie.spec
+    Inv-loop
+    μ-loop
+    two-to-requires
+    loop-holds
+    mul-loop
+    mul-eight
+    eight-requires
+    element-write-found
+    add-i
+    loop-less
+    loop-again
+    same-length
+    returns)

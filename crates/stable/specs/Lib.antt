@@ -1,0 +1,5 @@
+pub mod Subset
+pub mod Number
+pub mod Image
+pub mod Listing
+pub mod Bitmap
