@@ -59,6 +59,15 @@ answer-any rs x y e h = rw append-nil at (answer-refused rs [] x y e h)
 pub answer-later : (rs qs : List Row) (x y : ℕ) → none rs ≡ true → {a : Answer} → a ≡ answer qs x → (a .number ≡ 0 → ⊥) → a ≡ answer (rs ++ qs) y
 answer-later rs qs x y n e h = answer-any qs x y e h ∙ sym (answer-past rs qs y n)
 
+-- rows of which none applies leave it to those behind whether one does
+pub none-past : (rs qs : List Row) → none rs ≡ true → none (rs ++ qs) ≡ none qs
+none-past [] qs n = refl
+none-past (r ∷ rs) qs n = let t = none-cons r rs n in rw (t .0) (none-past rs qs (t .1))
+
+-- where the answer refuses, some row applies
+pub none-refused : (rs : List Row) (x : ℕ) {a : Answer} → a ≡ answer rs x → (a .number ≡ 0 → ⊥) → none rs ≡ false
+none-refused rs x e h = cases (none rs) (λ n. absurd (h (ap (λ (b : Answer). b .number) (e ∙ answer-none rs x n)))) (λ n. n)
+
 -- where none of the first and none of the later rows applies, the result is accepted
 pub answer-both : (rs qs : List Row) (x : ℕ) → none rs ≡ true → none qs ≡ true → answer (rs ++ qs) x ≡ accepted x
 answer-both rs qs x n m = answer-past rs qs x n ∙ answer-none qs x m

@@ -1,17 +1,23 @@
--- What each public call gives: number, place and result for every input, by the rows of the refusal table in their order.
+-- What each public call gives, for every input: number, place and result by the rows of the refusal table in their order, and every byte of its output.
 use mathlib.Core.Bool.{Bool, true, false}
-use mathlib.Core.List.{List, _++_}
+use mathlib.Core.List.{List, [], _∷_, _++_}
 use Prim.Native.Nat.{ℕ}
+use lib.ListN.{length}
 use Rattle.refusal.specs.declared.Answer.{Answer}
+use Rattle.refusal.specs.Limits.{mostTrue}
 use Rattle.refusal.specs.Table.{Row, answer}
-use Rattle.refusal.specs.Rows.{readingRows}
+use Rattle.refusal.specs.Rows.{readingRows, candidateRows, row11, countTrue}
+use Rattle.wire.specs.Outcome.{Outcome, outcome, written}
 use Rattle.logic.specs.Formula.{readingOf, satisfies}
+use Rattle.logic.specs.AnswerSet.{isAnswerSet}
 use Rattle.theory.specs.Book.{bookFormulas}
 use Rattle.theory.specs.Image.{atomCount, bookOf}
 use Rattle.theory.specs.Rows.{theoryRows}
-use Rattle.program.specs.Program.{satisfiesProgram}
+use Rattle.program.specs.Program.{satisfiesProgram, programFormulas}
 use Rattle.program.specs.Image.{sizeOf, programOf}
 use Rattle.program.specs.Rows.{programRows}
+use Rattle.stable.specs.Subset.{setOf}
+use Rattle.stable.specs.Listing.{setsOf, setsRows, listing}
 
 -- Yes is 1, no is 0.
 abbrev pub yes : Bool → ℕ
@@ -39,3 +45,28 @@ evaluateProgramRows p r = programRows p ++ readingRows (sizeOf p) r
 
 abbrev pub evaluateProgram : (program reading : List ℕ) → Answer
 evaluateProgram p r = answer (evaluateProgramRows p r) (yes (satisfiesProgram (readingOf r) (programOf p)))
+
+-- The row of a candidate test's own: over 16 atoms true.
+abbrev pub row11True : (candidate : List ℕ) → Row
+row11True c = row11 (countTrue c) mostTrue
+
+-- Testing a candidate of a theory: rows 1-7, 9, 10, 11; the result is whether it is an answer set.
+abbrev pub testTheoryRows : (theory candidate : List ℕ) → List Row
+testTheoryRows t c = theoryRows t ++ (candidateRows (atomCount t) c ++ (row11True c ∷ []))
+
+abbrev pub testTheory : (theory candidate : List ℕ) → Answer
+testTheory t c = answer (testTheoryRows t c) (yes (isAnswerSet (atomCount t) (bookFormulas (bookOf t)) (setOf c)))
+
+-- Testing a candidate of a program: rows 21-26, 9, 10, 11; the result is whether it is an answer set.
+abbrev pub testProgramRows : (program candidate : List ℕ) → List Row
+testProgramRows p c = programRows p ++ (candidateRows (sizeOf p) c ++ (row11True c ∷ []))
+
+abbrev pub testProgram : (program candidate : List ℕ) → Answer
+testProgram p c = answer (testProgramRows p c) (yes (isAnswerSet (sizeOf p) (programFormulas (programOf p)) (setOf c)))
+
+-- Listing: rows 1-7, 11, 8; the result is the number of answer sets, and the bytes are their numbers.
+abbrev pub listSetsRows : (theory out : List ℕ) → List Row
+listSetsRows t out = theoryRows t ++ setsRows t out
+
+abbrev pub listSets : (theory out : List ℕ) → Outcome
+listSets t out = outcome (answer (listSetsRows t out) (length (setsOf t))) (written (listSetsRows t out) (listing t) out)

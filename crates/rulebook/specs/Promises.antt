@@ -5,19 +5,21 @@ use mathlib.Core.Bool.{Bool, true, not}
 use mathlib.Core.List.{List, [], _∷_, _++_, map, List·Memᴰ}
 use Prim.Native.Nat.{ℕ, suc, _≤_, _<_}
 use lib.Dec.{ltb}
-use lib.ListN.{length, take}
+use lib.ListN.{length, take, drop}
 use Rattle.refusal.specs.declared.Answer.{Answer}
 use Rattle.refusal.specs.Table.{none, Exact}
 use Rattle.refusal.specs.First.{FirstAt}
 use Rattle.refusal.specs.Rows.{argumentRows}
 use Rattle.refusal.proofs.Table.{answer-exact}
+use Rattle.wire.specs.Outcome.{Outcome}
+use Rattle.wire.proofs.Outcome
 use Rattle.refusal.proofs.First.{firstSuch-first}
 use Rattle.logic.specs.declared.Value.the-variants.{Both}
 use Rattle.logic.specs.Value.{number, negation}
 use Rattle.logic.specs.Formula.{Formula, Reading, readingOf, valueOf, value, satisfies, AllOver}
 use Rattle.logic.specs.Atoms.{Atoms, hereOf, thereOf}
 use Rattle.logic.specs.HereAndThere.{here, there, truth, Equilibrium}
-use Rattle.logic.specs.AnswerSet.{AnswerSet, answerSets}
+use Rattle.logic.specs.AnswerSet.{AnswerSet, isAnswerSet, answerSets}
 use Rattle.logic.proofs.Worlds
 use Rattle.logic.proofs.AnswerSets
 use Rattle.theory.specs.Book.{Book, nodeAt, impliesKind, WellFormed, formulaAt, nodeFormulas, bookFormulas}
@@ -38,7 +40,11 @@ use Rattle.translation.specs.OneToOne.{OneToOne}
 use Rattle.translation.proofs.Extensions
 use Rattle.translation.proofs.Demand3
 use Rattle.translation.proofs.BenchCases as programs
-use Rattle.rulebook.specs.Calls.{yes, checkTheory, evaluateTheoryRows, evaluateTheory, checkProgram, evaluateProgramRows, evaluateProgram}
+use Rattle.stable.specs.Subset.{setOf}
+use Rattle.stable.specs.Number.{numberOf}
+use Rattle.stable.specs.Listing.{setsOf as bookSets, setsRows, listing, Ascending}
+use Rattle.stable.proofs.Listings
+use Rattle.rulebook.specs.Calls.{yes, checkTheory, evaluateTheoryRows, evaluateTheory, testTheoryRows, testTheory, listSetsRows, listSets, checkProgram, evaluateProgramRows, evaluateProgram, testProgramRows, testProgram}
 
 -- Demand 1: no two outcomes meet a call's contract, and each row's number is given exactly where that row applies and no earlier one does.
 
@@ -66,6 +72,33 @@ evaluateProgram-unique p r a b e f = e ∙ sym f
 evaluateProgram-exact : (p r : List ℕ) → Exact (evaluateProgramRows p r) (yes (satisfiesProgram (readingOf r) (programOf p))) (evaluateProgram p r)
 evaluateProgram-exact p r = unfold programRows argumentRows in answer-exact (evaluateProgramRows p r) _ refl
 
+testTheory-unique : (t c : List ℕ) (a b : Answer) → a ≡ testTheory t c → b ≡ testTheory t c → a ≡ b
+testTheory-unique t c a b p q = p ∙ sym q
+
+testTheory-exact : (t c : List ℕ) → Exact (testTheoryRows t c) (yes (isAnswerSet (atomCount t) (bookFormulas (bookOf t)) (setOf c))) (testTheory t c)
+testTheory-exact t c = unfold theoryRows headerRows argumentRows in answer-exact (testTheoryRows t c) _ refl
+
+testProgram-unique : (p c : List ℕ) (a b : Answer) → a ≡ testProgram p c → b ≡ testProgram p c → a ≡ b
+testProgram-unique p c a b e f = e ∙ sym f
+
+testProgram-exact : (p c : List ℕ) → Exact (testProgramRows p c) (yes (isAnswerSet (sizeOf p) (programFormulas (programOf p)) (setOf c))) (testProgram p c)
+testProgram-exact p c = unfold programRows argumentRows in answer-exact (testProgramRows p c) _ refl
+
+listSets-unique : (t o : List ℕ) (a b : Outcome) → a ≡ listSets t o → b ≡ listSets t o → a ≡ b
+listSets-unique t o a b p q = p ∙ sym q
+
+listSets-exact : (t o : List ℕ) → Exact (listSetsRows t o) (length (bookSets t)) (listSets t o .answer)
+listSets-exact t o = unfold theoryRows headerRows setsRows in answer-exact (listSetsRows t o) _ refl
+
+-- A refusal leaves the output as it was; an acceptance writes the bytes and leaves those past them.
+
+listSets-refused : (t o : List ℕ) → (listSets t o .answer .number ≡ 0 → ⊥) → listSets t o .out ≡ o
+listSets-refused t o = Outcome.written-refused (listSetsRows t o) (length (bookSets t)) (listing t) o
+
+listSets-accepted : (t o : List ℕ) → none (listSetsRows t o) ≡ true
+    → (take (length (listing t)) (listSets t o .out) ≡ listing t) × (drop (length (listing t)) (listSets t o .out) ≡ drop (length (listing t)) o)
+listSets-accepted t o = Outcome.written-accepted (listSetsRows t o) (listing t) o
+
 -- The place of 6 is the first such node, that of 7 the first such root, that of 26 the first such rule.
 
 row6-first : (t : List ℕ) → row6 t .applies ≡ true → FirstAt (λ k. not (nodeKeeps (atomCount t) (nodeSection t) k)) (nodeCount t) (row6 t .place)
@@ -91,6 +124,17 @@ value-there = Worlds.value-there
 
 equilibrium : (n : ℕ) (Γ : List Formula) (T : Atoms) → AnswerSet n Γ T ↔ Equilibrium n Γ T
 equilibrium = AnswerSets.equilibrium-iff
+
+-- A candidate test's result, and the listing: exactly the answer sets, ascending by number.
+
+tested : (n : ℕ) (Γ : List Formula) (T : Atoms) → length T ≡ n → (isAnswerSet n Γ T ≡ true) ↔ AnswerSet n Γ T
+tested = AnswerSets.isAnswerSet-iff
+
+listed : (n : ℕ) (Γ : List Formula) (T : Atoms) → List·Memᴰ T (answerSets n Γ) ↔ AnswerSet n Γ T
+listed = AnswerSets.answerSets-iff
+
+ascending : (n : ℕ) (Γ : List Formula) → Ascending (map numberOf (answerSets n Γ))
+ascending = Listings.answerSets-ascending
 
 -- Demand 3, over the definitions.
 

@@ -1,7 +1,8 @@
 //! The public calls. Each takes any bytes in every slice, trusts no earlier check, and has no `requires`.
 use refusal::Answer;
 ghost use mathlib.Core.Path.{_≡_};
-ghost use Rattle.rulebook.specs.Calls.{yes, checkTheory, evaluateTheory, checkProgram, evaluateProgram};
+ghost use Rattle.wire.specs.Outcome.{outcome};
+ghost use Rattle.rulebook.specs.Calls.{yes, checkTheory, evaluateTheory, testTheory, listSets, checkProgram, evaluateProgram, testProgram};
 
 // Checks a theory image.
 #[no_mangle]
@@ -29,6 +30,39 @@ pub extern "C" fn rulebook_evaluate_theory(theory: &[u8], reading: &[u8]) -> Ans
     refusal::accept(result_of(holds))
 }
 
+// Whether a candidate, a byte 0 or 2 for each atom, is an answer set of a theory.
+#[no_mangle]
+pub extern "C" fn rulebook_test_theory(theory: &[u8], candidate: &[u8]) -> Answer
+    ensures { λ r. ⌜ r ≡ testTheory (now (theory .entry)) (now (candidate .entry)) ⌝ }
+{
+    let image = theory::check(theory);
+    if image.number != 0 {
+        return image;
+    }
+    let bytes = refusal::candidate(candidate, theory::atoms(theory));
+    if bytes.number != 0 {
+        return bytes;
+    }
+    let count = refusal::count_true(candidate);
+    if refusal::MOST_TRUE < count {
+        return refusal::refuse(11, count);
+    }
+    let holds = stable::test_theory(theory, candidate);
+    refusal::accept(result_of(holds))
+}
+
+// Lists the answer sets of a small theory: a 2-byte number each, in which atom i weighs 2 to the i.
+#[no_mangle]
+pub extern "C" fn rulebook_list_sets(theory: &[u8], out: &mut [u8]) -> Answer
+    ensures { λ r. ⌜ outcome r (now (out .exit)) ≡ listSets (now (theory .entry)) (now (out .entry)) ⌝ }
+{
+    let image = theory::check(theory);
+    if image.number != 0 {
+        return image;
+    }
+    stable::list_sets(theory, out)
+}
+
 // Checks a program image.
 #[no_mangle]
 pub extern "C" fn rulebook_check_program(program: &[u8]) -> Answer
@@ -46,11 +80,32 @@ pub extern "C" fn rulebook_evaluate_program(program: &[u8], reading: &[u8]) -> A
     if image.number != 0 {
         return image;
     }
-    let bytes = refusal::reading(reading, wire::u16_at(program, 2));
+    let bytes = refusal::reading(reading, program::size(program));
     if bytes.number != 0 {
         return bytes;
     }
     let holds = program::satisfied(program, reading);
+    refusal::accept(result_of(holds))
+}
+
+// Whether a candidate, a byte 0 or 2 for each atom and label, is an answer set of a program.
+#[no_mangle]
+pub extern "C" fn rulebook_test_program(program: &[u8], candidate: &[u8]) -> Answer
+    ensures { λ r. ⌜ r ≡ testProgram (now (program .entry)) (now (candidate .entry)) ⌝ }
+{
+    let image = program::check(program);
+    if image.number != 0 {
+        return image;
+    }
+    let bytes = refusal::candidate(candidate, program::size(program));
+    if bytes.number != 0 {
+        return bytes;
+    }
+    let count = refusal::count_true(candidate);
+    if refusal::MOST_TRUE < count {
+        return refusal::refuse(11, count);
+    }
+    let holds = stable::test_program(program, candidate);
     refusal::accept(result_of(holds))
 }
 

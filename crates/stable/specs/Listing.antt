@@ -1,11 +1,11 @@
 -- The listing: each answer set of a small theory as a 2-byte number, ascending.
-use mathlib.Core.Bool.{cond}
 use mathlib.Core.List.{List, [], _∷_, _++_, map}
 use Prim.Native.Nat.{ℕ, _*_, _<_}
 use lib.ListN.{length, getD}
-use Rattle.wire.specs.Wire.{u16Bytes, over}
+use Rattle.wire.specs.Wire.{u16Bytes}
+use Rattle.wire.specs.Outcome.{written}
 use Rattle.refusal.specs.Limits.{mostListed}
-use Rattle.refusal.specs.Table.{Row, none}
+use Rattle.refusal.specs.Table.{Row}
 use Rattle.refusal.specs.Rows.{row8, row11}
 use Rattle.logic.specs.Atoms.{Atoms}
 use Rattle.logic.specs.AnswerSet.{answerSets}
@@ -32,7 +32,7 @@ listing theory = numbersBytes (map numberOf (setsOf theory))
 
 -- The buffer as the listing leaves it: with the sets' numbers over its start, or unchanged where a row refuses.
 abbrev pub listed : (theory out : List ℕ) → List ℕ
-listed theory out = cond (none (setsRows theory out)) (over (listing theory) out) out
+listed theory out = written (setsRows theory out) (listing theory) out
 
 -- Every number of the list is below each later one.
 abbrev pub Ascending : List ℕ → Type 0

@@ -1,2 +1,3 @@
 pub mod Wire
 pub mod Sequence
+pub mod Outcome

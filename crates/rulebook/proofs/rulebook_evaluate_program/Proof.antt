@@ -3,7 +3,6 @@ use mathlib.Core.Path.{_≡_, sym, ap, _∙_}
 use mathlib.Core.Bool.{true, false}
 use mathlib.Core.List.{List}
 use Prim.Native.Nat.{ℕ}
-use native.Mathlib.Omega.{arith}
 use denote.Ref.{now}
 use borrow.Author.Needs.{needs}
 use Rattle.refusal.specs.Table.{Row, none, answer, accepted}
@@ -12,7 +11,7 @@ use Rattle.refusal.proofs.Table.{answer-refused, answer-later, answer-both, non
 use Rattle.refusal.proofs.Rows.{numbered-argumentRows, none-argumentRows}
 use Rattle.program.specs.Image.{sizeOf}
 use Rattle.program.specs.Rows.{programRows}
-use Rattle.program.proofs.Accepted.{numbered-programRows, none-programRows}
+use Rattle.program.proofs.Accepted.{numbered-programRows}
 use Rattle.rulebook.specs.Calls.{yes}
 use Rattle.rulebook.proofs.rulebook_evaluate_program.Statement.{statement}
 use Rattle.rulebook.proofs.rulebook_evaluate_program.Tie as tie
@@ -30,7 +29,7 @@ image c = none-accepted (programRows _) 1 (numbered-programRows _) (c .before .b
 -- and the reading is tried at B.
 tried : (c : tie.After-reading) → let s = c .before .before .before .before .before .before .before in
     c .reading .result ≡ answer (rows-of s (sizeOf (program-of s))) 0
-tried c = rw (c .before .u16-at .ensures .0) at (c .reading .ensures)
+tried c = rw (c .before .size .ensures .0) at (c .reading .ensures)
 
 -- Past the second none of the reading's does.
 bytes : (c : tie.Else2) → let s = c .before .before .before .before .before .before .before .before .before in
@@ -43,8 +42,8 @@ check-requires c κs = search needs
 returns : tie.Need-returns
 returns c = answer-refused (programRows _) _ 1 _ (c .before .before .check .ensures) (c .if1 .taken)
 
-u16-at-requires : tie.Need-u16-at-requires
-u16-at-requires c κs = omega (arith, none-programRows _ (image c) .long)
+size-requires : tie.Need-size-requires
+size-requires c κs = image c
 
 reading-requires : tie.Need-reading-requires
 reading-requires c κs = search needs
@@ -73,7 +72,7 @@ rulebook-evaluate-program-spec =
     (tie.spec
     check-requires
     returns
-    u16-at-requires
+    size-requires
     reading-requires
     returns-2
     satisfied-requires

@@ -1,0 +1,32 @@
+-- Laws of the outcome of a call that writes: what its first rows refuse is refused and nothing is written, past them the later rows decide. From the laws of an answer.
+use mathlib.Core.Path.{_≡_, refl, sym, ap, ap₂, _∙_}
+use mathlib.Core.Bool.{Bool, true, cond}
+use mathlib.Core.List.{List, _++_}
+use Prim.Native.Nat.{ℕ}
+use lib.ListN.{length, take, drop}
+use Rattle.refusal.specs.declared.Answer.{Answer}
+use Rattle.refusal.specs.Table.{Row, answer, none}
+use Rattle.refusal.proofs.Table.{answer-past, answer-refused, none-past, none-refused}
+use Rattle.wire.specs.Wire.{over}
+use Rattle.wire.specs.Outcome.{outcome, written}
+use Rattle.wire.proofs.Laws.{take-over, drop-over}
+
+-- a refusal leaves the output as it was
+pub written-refused : (rows : List Row) (x : ℕ) (bytes out : List ℕ) → (answer rows x .number ≡ 0 → ⊥) → written rows bytes out ≡ out
+written-refused rows x bytes out h = rw (none-refused rows x refl h)
+
+-- an acceptance writes the bytes, and leaves what stands past them
+pub written-accepted : (rows : List Row) (bytes out : List ℕ) → none rows ≡ true
+    → (take (length bytes) (written rows bytes out) ≡ bytes) × (drop (length bytes) (written rows bytes out) ≡ drop (length bytes) out)
+written-accepted rows bytes out n = rw n (take-over bytes out, drop-over bytes out)
+
+module _ (rs qs : List Row) (bytes out : List ℕ) (y : ℕ) where
+  pub outcome-refused : (x : ℕ) {a : Answer} → a ≡ answer rs x → (a .number ≡ 0 → ⊥) → outcome a out ≡ outcome (answer (rs ++ qs) y) (written (rs ++ qs) bytes out)
+  outcome-refused x e h =
+      let whole = answer-refused rs qs x y e h in
+      ap₂ outcome whole (ap (λ (b : Bool). cond b (over bytes out) out) (sym (none-refused (rs ++ qs) y whole h)))
+
+  pub outcome-past : none rs ≡ true → {a : Answer} {left : List ℕ} → a ≡ answer qs y → left ≡ written qs bytes out
+      → outcome a left ≡ outcome (answer (rs ++ qs) y) (written (rs ++ qs) bytes out)
+  outcome-past n e f =
+      ap₂ outcome (e ∙ sym (answer-past rs qs y n)) (f ∙ ap (λ (b : Bool). cond b (over bytes out) out) (sym (none-past rs qs n)))
