@@ -5,6 +5,7 @@
  * many bytes and, where the length is 0, any non-null address; the bytes may be
  * anything. No call keeps a pointer, allocates, prints or fails otherwise than by
  * its answer, and no call trusts an earlier one. An output must not overlap an input.
+ * All numbers in images and outputs are little-endian.
  *
  * An answer with number 0 accepts: its place is 0 and its result is the call's.
  * Any other number refuses: its place says where, its result is 0, and every byte
@@ -56,6 +57,27 @@ struct rulebook_answer rulebook_evaluate_theory(
     const uint8_t *theory, size_t theory_length,
     const uint8_t *reading, size_t reading_length);
 
+/* Writes the flat program of a theory, 16 + 10K bytes. Rows 1-7, 14, 8. Result: K, the number of its rules. */
+struct rulebook_answer rulebook_translate(
+    const uint8_t *theory, size_t theory_length,
+    uint8_t *out, size_t out_length);
+
+/* Writes the A bytes of a reading and then the value of each label, B bytes in all, also for a reading that does not satisfy. Rows 1-7, 14, 9, 10, 8. Result: B. */
+struct rulebook_answer rulebook_extend(
+    const uint8_t *theory, size_t theory_length,
+    const uint8_t *reading, size_t reading_length,
+    uint8_t *out, size_t out_length);
+
+/* Whether a candidate, a byte 0 or 2 for each of the A atoms, is an answer set of a theory. Rows 1-7, 9, 10, 11. Result: 1 or 0. */
+struct rulebook_answer rulebook_test_theory(
+    const uint8_t *theory, size_t theory_length,
+    const uint8_t *candidate, size_t candidate_length);
+
+/* Writes each answer set of a theory as a 2-byte number in which atom i weighs 2 to the i, ascending. Rows 1-7, 11, 8. Result: their count. */
+struct rulebook_answer rulebook_list_sets(
+    const uint8_t *theory, size_t theory_length,
+    uint8_t *out, size_t out_length);
+
 /* Checks a program image. Rows 21-26. Result: 1. */
 struct rulebook_answer rulebook_check_program(
     const uint8_t *program, size_t program_length);
@@ -64,6 +86,11 @@ struct rulebook_answer rulebook_check_program(
 struct rulebook_answer rulebook_evaluate_program(
     const uint8_t *program, size_t program_length,
     const uint8_t *reading, size_t reading_length);
+
+/* Whether a candidate, a byte 0 or 2 for each of the B atoms and labels, is an answer set of a program. Rows 21-26, 9, 10, 11. Result: 1 or 0. */
+struct rulebook_answer rulebook_test_program(
+    const uint8_t *program, size_t program_length,
+    const uint8_t *candidate, size_t candidate_length);
 
 #ifdef __cplusplus
 }

@@ -5,12 +5,13 @@ use mathlib.Core.Bool.{Bool, true, not}
 use mathlib.Core.List.{List, [], _∷_, _++_, map, List·Memᴰ}
 use Prim.Native.Nat.{ℕ, suc, _≤_, _<_}
 use lib.Dec.{ltb}
-use lib.ListN.{length, take, drop}
+use lib.ListN.{length, getD, take, drop}
 use Rattle.refusal.specs.declared.Answer.{Answer}
 use Rattle.refusal.specs.Table.{none, Exact}
 use Rattle.refusal.specs.First.{FirstAt}
-use Rattle.refusal.specs.Rows.{argumentRows}
+use Rattle.refusal.specs.Rows.{wrong, row10, argumentRows}
 use Rattle.refusal.proofs.Table.{answer-exact}
+use Rattle.wire.specs.Wire.{Bytes}
 use Rattle.wire.specs.Outcome.{Outcome}
 use Rattle.wire.proofs.Outcome
 use Rattle.refusal.proofs.First.{firstSuch-first}
@@ -29,10 +30,15 @@ use Rattle.theory.specs.Rows.{row6, row7, headerRows, theoryRows}
 use Rattle.theory.proofs.Rows.{numbered-theoryRows}
 use Rattle.theory.proofs.Accepted
 use Rattle.theory.proofs.BenchCases as books
+use Rattle.program.specs.Rule.{Rule, holds, ruleFormula}
 use Rattle.program.specs.Program.{Program, satisfiesProgram, programFormulas}
 use Rattle.program.specs.Image.{sizeOf, ruleCount, ruleSection, ruleKeeps, programOf, imageOf}
 use Rattle.program.specs.Rows.{row26, programRows}
+use Rattle.program.specs.Writable.{writable}
 use Rattle.program.proofs.Accepted as program-accepted
+use Rattle.program.proofs.Rules
+use Rattle.program.proofs.Reading as ReadingBack
+use Rattle.program.proofs.Writing
 use Rattle.translation.specs.Table.{labelCount}
 use Rattle.translation.specs.Flat.{flat}
 use Rattle.translation.specs.Extension.{extend, Extends, firstLabel}
@@ -99,7 +105,7 @@ listSets-accepted : (t o : List ℕ) → none (listSetsRows t o) ≡ true
     → (take (length (listing t)) (listSets t o .out) ≡ listing t) × (drop (length (listing t)) (listSets t o .out) ≡ drop (length (listing t)) o)
 listSets-accepted t o = Outcome.written-accepted (listSetsRows t o) (listing t) o
 
--- The place of 6 is the first such node, that of 7 the first such root, that of 26 the first such rule.
+-- The place of 6 is the first such node, that of 7 the first such root, that of 26 the first such rule, that of 10 the first such index.
 
 row6-first : (t : List ℕ) → row6 t .applies ≡ true → FirstAt (λ k. not (nodeKeeps (atomCount t) (nodeSection t) k)) (nodeCount t) (row6 t .place)
 row6-first t = firstSuch-first 6 (λ k. not (nodeKeeps (atomCount t) (nodeSection t) k)) (nodeCount t)
@@ -109,6 +115,9 @@ row7-first t = firstSuch-first 7 (λ i. not (ltb (rootIn (rootSection t) i) (nod
 
 row26-first : (p : List ℕ) → row26 p .applies ≡ true → FirstAt (λ k. not (ruleKeeps (sizeOf p) (ruleSection p) k)) (ruleCount p) (row26 p .place)
 row26-first p = firstSuch-first 26 (λ k. not (ruleKeeps (sizeOf p) (ruleSection p) k)) (ruleCount p)
+
+row10-first : (candidate : Bool) (r : List ℕ) → row10 candidate r .applies ≡ true → FirstAt (λ i. wrong candidate (getD r i 0)) (length r) (row10 candidate r .place)
+row10-first candidate r = firstSuch-first 10 (λ i. wrong candidate (getD r i 0)) (length r)
 
 -- An accepted image is a well-formed book.
 accepted-book : (t : List ℕ) → none (theoryRows t) ≡ true → WellFormed (bookOf t)
@@ -124,6 +133,20 @@ value-there = Worlds.value-there
 
 equilibrium : (n : ℕ) (Γ : List Formula) (T : Atoms) → AnswerSet n Γ T ↔ Equilibrium n Γ T
 equilibrium = AnswerSets.equilibrium-iff
+
+rule : (J : Reading) (r : Rule) → (holds (valueOf J) r ≡ true) ↔ (value J (ruleFormula r) ≡ Both)
+rule = Rules.rule-iff
+
+-- Reading what was written gives the same A, B and rules; writing what was read gives the same bytes.
+
+read-written : (p : Program) → writable p ≡ true → programOf (imageOf p) ≡ p
+read-written = ReadingBack.programOf-imageOf
+
+written-accepted : (p : Program) → writable p ≡ true → none (programRows (imageOf p)) ≡ true
+written-accepted = ReadingBack.imageOf-accepted
+
+written-read : (p : List ℕ) → Bytes p → none (programRows p) ≡ true → imageOf (programOf p) ≡ p
+written-read = Writing.imageOf-programOf
 
 -- A candidate test's result, and the listing: exactly the answer sets, ascending by number.
 

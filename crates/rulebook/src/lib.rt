@@ -25,7 +25,7 @@ pub extern "C" fn rulebook_evaluate_theory(theory: &[u8], reading: &[u8]) -> Ans
     if bytes.number != 0 {
         return bytes;
     }
-    let mut scratch = [0u8; 1024];
+    let mut scratch = [0u8; refusal::MOST_NODES];
     let holds = theory::satisfied(theory, reading, &mut scratch);
     refusal::accept(result_of(holds))
 }

@@ -1,0 +1,128 @@
+//! The nine public calls as a table of functions, so that a comparison need not know whose they are.
+
+use std::fmt;
+
+/// What every public call gives back. The layout is the one that C sees.
+#[repr(C)]
+#[derive(Clone, Copy, Debug, Default, PartialEq, Eq)]
+pub struct Answer {
+    /// 0 when accepted, else the row of the refusal table.
+    pub number: u32,
+    /// Where the input was wrong, or how much was wanted; 0 when accepted.
+    pub place: usize,
+    /// The call's own result; 0 when refused.
+    pub result: usize,
+}
+
+impl fmt::Display for Answer {
+    fn fmt(&self, to: &mut fmt::Formatter<'_>) -> fmt::Result {
+        write!(to, "number {}, place {}, result {}", self.number, self.place, self.result)
+    }
+}
+
+/// The name of a public call.
+#[derive(Clone, Copy, Debug, PartialEq, Eq)]
+pub enum Call {
+    CheckTheory,
+    EvaluateTheory,
+    Translate,
+    Extend,
+    TestTheory,
+    ListSets,
+    CheckProgram,
+    EvaluateProgram,
+    TestProgram,
+}
+
+impl Call {
+    pub const ALL: [Call; 9] = [
+        Call::CheckTheory,
+        Call::EvaluateTheory,
+        Call::Translate,
+        Call::Extend,
+        Call::TestTheory,
+        Call::ListSets,
+        Call::CheckProgram,
+        Call::EvaluateProgram,
+        Call::TestProgram,
+    ];
+
+    pub fn name(self) -> &'static str {
+        match self {
+            Call::CheckTheory => "check_theory",
+            Call::EvaluateTheory => "evaluate_theory",
+            Call::Translate => "translate",
+            Call::Extend => "extend",
+            Call::TestTheory => "test_theory",
+            Call::ListSets => "list_sets",
+            Call::CheckProgram => "check_program",
+            Call::EvaluateProgram => "evaluate_program",
+            Call::TestProgram => "test_program",
+        }
+    }
+
+    /// Whether the call takes a program image and not a theory image.
+    pub fn on_program(self) -> bool {
+        matches!(self, Call::CheckProgram | Call::EvaluateProgram | Call::TestProgram)
+    }
+
+    /// Whether the call takes an interpretation beside the image.
+    pub fn reads(self) -> bool {
+        matches!(
+            self,
+            Call::EvaluateTheory | Call::Extend | Call::TestTheory | Call::EvaluateProgram | Call::TestProgram
+        )
+    }
+
+    /// Whether that interpretation is a candidate.
+    pub fn tests(self) -> bool {
+        matches!(self, Call::TestTheory | Call::TestProgram)
+    }
+
+    /// Whether the call is lent a buffer.
+    pub fn writes(self) -> bool {
+        matches!(self, Call::Translate | Call::Extend | Call::ListSets)
+    }
+
+    /// How many bytes an accepted call with this result has written.
+    pub fn written(self, result: usize) -> usize {
+        match self {
+            Call::Translate => 16 + 10 * result,
+            Call::Extend => result,
+            Call::ListSets => 2 * result,
+            _ => 0,
+        }
+    }
+}
+
+/// One implementation of the nine public calls.
+#[derive(Clone, Copy)]
+pub struct Calls {
+    pub name: &'static str,
+    pub check_theory: fn(&[u8]) -> Answer,
+    pub evaluate_theory: fn(&[u8], &[u8]) -> Answer,
+    pub translate: fn(&[u8], &mut [u8]) -> Answer,
+    pub extend: fn(&[u8], &[u8], &mut [u8]) -> Answer,
+    pub test_theory: fn(&[u8], &[u8]) -> Answer,
+    pub list_sets: fn(&[u8], &mut [u8]) -> Answer,
+    pub check_program: fn(&[u8]) -> Answer,
+    pub evaluate_program: fn(&[u8], &[u8]) -> Answer,
+    pub test_program: fn(&[u8], &[u8]) -> Answer,
+}
+
+impl Calls {
+    /// Runs `call`; arguments that it does not take are left alone.
+    pub fn run(&self, call: Call, image: &[u8], reading: &[u8], out: &mut [u8]) -> Answer {
+        match call {
+            Call::CheckTheory => (self.check_theory)(image),
+            Call::EvaluateTheory => (self.evaluate_theory)(image, reading),
+            Call::Translate => (self.translate)(image, out),
+            Call::Extend => (self.extend)(image, reading, out),
+            Call::TestTheory => (self.test_theory)(image, reading),
+            Call::ListSets => (self.list_sets)(image, out),
+            Call::CheckProgram => (self.check_program)(image),
+            Call::EvaluateProgram => (self.evaluate_program)(image, reading),
+            Call::TestProgram => (self.test_program)(image, reading),
+        }
+    }
+}

@@ -1,0 +1,153 @@
+//! The comparison itself under test: it accepts the reference and finds each of these broken versions of it.
+
+use crate::calls::{Answer, Calls};
+use crate::reference;
+use crate::suite::{Effort, Suite, PARTS};
+
+fn run(broken: Calls) -> Result<(), String> {
+    let mut suite = Suite::new(&reference::CALLS, &broken, 1);
+    PARTS.into_iter().try_for_each(|(_, part)| part(&mut suite, &Effort::SHORT)).map_err(|finding| finding.0)
+}
+
+/// The suite finds a difference in the call of this name.
+fn found(call: &str, broken: Calls) {
+    let finding = run(Calls { name: "broken", ..broken }).expect_err("a difference");
+    assert!(finding.starts_with(&format!("difference in {call}: ")), "{finding}");
+    assert!(finding.contains("  reference: ") && finding.contains("  broken: "), "{finding}");
+}
+
+#[test]
+fn nothing_against_itself() {
+    assert_eq!(run(reference::CALLS), Ok(()));
+}
+
+#[test]
+fn refuses_everything() {
+    let refuse = |_: &[u8]| Answer { number: 1, place: 0, result: 0 };
+    found("check_theory", Calls { check_theory: refuse, ..reference::CALLS });
+    found("check_program", Calls { check_program: refuse, ..reference::CALLS });
+}
+
+#[test]
+fn header_before_room_is_known() {
+    fn translate(theory: &[u8], out: &mut [u8]) -> Answer {
+        let answer = reference::translate(theory, out);
+        if answer.number == 8 {
+            out.iter_mut().take(16).for_each(|byte| *byte = 0);
+        }
+        answer
+    }
+    found("translate", Calls { translate, ..reference::CALLS });
+}
+
+#[test]
+fn writes_before_the_buffer_ends_but_past_its_part() {
+    fn extend(theory: &[u8], reading: &[u8], out: &mut [u8]) -> Answer {
+        let answer = reference::extend(theory, reading, out);
+        if answer.number == 0 && out.len() > answer.result {
+            out[answer.result] ^= 1;
+        }
+        answer
+    }
+    found("extend", Calls { extend, ..reference::CALLS });
+}
+
+#[test]
+fn buffer_left_alone() {
+    fn translate(theory: &[u8], out: &mut [u8]) -> Answer {
+        reference::translate(theory, &mut out.to_vec())
+    }
+    found("translate", Calls { translate, ..reference::CALLS });
+}
+
+#[test]
+fn an_invented_count() {
+    fn list_sets(theory: &[u8], out: &mut [u8]) -> Answer {
+        let answer = reference::list_sets(theory, out);
+        Answer { result: answer.result.max(1), ..answer }
+    }
+    found("list_sets", Calls { list_sets, ..reference::CALLS });
+}
+
+#[test]
+fn rows_in_the_wrong_order() {
+    fn evaluate_theory(theory: &[u8], reading: &[u8]) -> Answer {
+        match reading.iter().position(|&byte| byte > 2) {
+            Some(place) if reference::check_theory(theory).number == 0 => Answer { number: 10, place, result: 0 },
+            _ => reference::evaluate_theory(theory, reading),
+        }
+    }
+    found("evaluate_theory", Calls { evaluate_theory, ..reference::CALLS });
+}
+
+#[test]
+fn minimality_among_two_valued_models_only() {
+    fn test_theory(theory: &[u8], candidate: &[u8]) -> Answer {
+        let answer = reference::test_theory(theory, candidate);
+        if answer.number != 0 {
+            return answer;
+        }
+        let satisfied = |reading: &[u8]| reference::evaluate_theory(theory, reading).result == 1;
+        let truths: Vec<usize> = (0..candidate.len()).filter(|&atom| candidate[atom] == 2).collect();
+        let smaller = (0..(1usize << truths.len()) - 1).any(|subset| {
+            let mut reading = vec![0; candidate.len()];
+            (0..truths.len()).filter(|bit| subset >> bit & 1 == 1).for_each(|bit| reading[truths[bit]] = 2);
+            satisfied(&reading)
+        });
+        Answer { result: usize::from(satisfied(candidate) && !smaller), ..answer }
+    }
+    found("test_theory", Calls { test_theory, ..reference::CALLS });
+}
+
+#[test]
+fn a_sum_that_wraps_in_a_byte() {
+    fn check_program(program: &[u8]) -> Answer {
+        let mut image = program.to_vec();
+        for rule in image.get_mut(16..).unwrap_or_default().chunks_exact_mut(10) {
+            if rule[0].wrapping_add(rule[1]).wrapping_add(rule[2]) == 0 {
+                rule[..3].fill(0);
+            }
+        }
+        reference::check_program(&image)
+    }
+    found("check_program", Calls { check_program, ..reference::CALLS });
+}
+
+#[test]
+fn negative_literals_read_as_positive() {
+    fn evaluate_program(program: &[u8], reading: &[u8]) -> Answer {
+        let mut image = program.to_vec();
+        if reference::check_program(program).number == 0 {
+            for rule in image[16..].chunks_exact_mut(10) {
+                rule[1] += rule[2];
+                rule[2] = 0;
+            }
+        }
+        reference::evaluate_program(&image, reading)
+    }
+    found("evaluate_program", Calls { evaluate_program, ..reference::CALLS });
+}
+
+#[test]
+fn a_candidate_that_satisfies_is_not_yet_an_answer_set() {
+    fn test_program(program: &[u8], candidate: &[u8]) -> Answer {
+        let answer = reference::test_program(program, candidate);
+        match answer.number {
+            0 => reference::evaluate_program(program, candidate),
+            _ => answer,
+        }
+    }
+    found("test_program", Calls { test_program, ..reference::CALLS });
+}
+
+/// Where both sides share a fault, comparison alone sees nothing; the parts that know the answer still do.
+#[test]
+fn a_fault_on_both_sides() {
+    fn evaluate_program(program: &[u8], reading: &[u8]) -> Answer {
+        let answer = reference::evaluate_program(program, reading);
+        Answer { result: usize::from(answer.number == 0), ..answer }
+    }
+    let broken = Calls { evaluate_program, ..reference::CALLS };
+    let mut suite = Suite::new(&broken, &broken, 1);
+    assert!(suite.labels(8).is_err());
+}

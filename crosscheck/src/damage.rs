@@ -1,0 +1,209 @@
+//! Damage done on purpose: each function breaks one row of the refusal table and gives the place that the row then has.
+//!
+//! Where several rows are to be broken in one image, the rows that change its length come last, and row 1 or 21 after
+//! all others.
+
+use crate::random::Random;
+
+fn set2(image: &mut [u8], at: usize, number: usize) {
+    image[at..at + 2].copy_from_slice(&(number as u16).to_le_bytes());
+}
+
+fn get2(image: &[u8], at: usize) -> usize {
+    usize::from(u16::from_le_bytes([image[at], image[at + 1]]))
+}
+
+/// A 2-byte number that is at least `low`, often only just.
+fn at_least(random: &mut Random, low: usize) -> usize {
+    match random.below(4) {
+        0 | 1 => low,
+        2 => random.within(low, (low + 3).min(65535)),
+        _ => random.within(low, 65535),
+    }
+}
+
+/// Bytes 6 and 7, rows 3 and 23.
+fn reserved(random: &mut Random, image: &mut [u8]) {
+    let at = random.within(6, 7);
+    image[at] = random.within(1, 255) as u8;
+}
+
+/// A 4-byte header field set to something else, rows 4 and 24.
+fn field(random: &mut Random, image: &mut [u8]) {
+    let at = random.pick(&[8, 12]);
+    let old = u32::from_le_bytes(image[at..at + 4].try_into().expect("four bytes"));
+    let new = match random.below(4) {
+        0 => old.wrapping_add(1),
+        1 => old.wrapping_sub(1),
+        2 => old ^ 1 << random.below(32),
+        _ => old.wrapping_add(random.within(1, 1 << 20) as u32),
+    };
+    image[at..at + 4].copy_from_slice(&new.to_le_bytes());
+}
+
+/// An image too long or too short, though not shorter than its header, rows 5 and 25.
+fn length(random: &mut Random, image: &mut Vec<u8>) -> usize {
+    let wanted = image.len();
+    if wanted > 16 && random.chance(50) {
+        let cut = random.within(1, (wanted - 16).min(12));
+        image.truncate(wanted - cut);
+    } else {
+        let more = random.within(1, 12);
+        image.resize(wanted + more, random.below(256) as u8);
+    }
+    wanted
+}
+
+/// An image shorter than its header, rows 1 and 21.
+fn stump(random: &mut Random, image: &mut Vec<u8>) {
+    let left = random.pick(&[0, 1, 7, 14, 15, 15]);
+    image.truncate(left);
+}
+
+/// The rows of a theory image in the order in which damage must be done.
+pub const THEORY_ORDER: [u32; 7] = [7, 6, 4, 3, 2, 5, 1];
+
+/// Breaks one of rows 1 to 7. The image is valid up to other damage, with at least one node and one root.
+pub fn theory(random: &mut Random, image: &mut Vec<u8>, row: u32) -> usize {
+    let (nodes, roots) = (get2(image, 2), get2(image, 4));
+    match row {
+        1 => stump(random, image),
+        2 => match random.below(3) {
+            0 => set2(image, 0, at_least(random, 1025)),
+            1 => set2(image, 2, at_least(random, 1025)),
+            _ => set2(image, 4, at_least(random, 257)),
+        },
+        3 => reserved(random, image),
+        4 => field(random, image),
+        5 => return length(random, image),
+        6 => {
+            let own = random.below(nodes);
+            node(random, image, own);
+            return own;
+        }
+        7 => {
+            let own = random.below(roots);
+            set2(image, 16 + 6 * nodes + 2 * own, at_least(random, nodes));
+            return own;
+        }
+        _ => panic!("no row {row} of a theory"),
+    }
+    0
+}
+
+/// Breaks the node `own` in one of the ways in which a node can be wrong.
+fn node(random: &mut Random, image: &mut [u8], own: usize) {
+    let atoms = get2(image, 0);
+    let earlier = if own > 0 { random.below(own) } else { 0 };
+    let atom = if atoms > 0 { random.below(atoms) } else { 0 };
+    let constant = random.below(2);
+    let binary = random.within(4, 6);
+    let some = random.within(1, 65535);
+    let (kind, left, right) = match random.below(10) {
+        0 => (random.within(7, 255), earlier, earlier),
+        1 => {
+            image[16 + 6 * own + 1] = random.within(1, 255) as u8;
+            return;
+        }
+        2 => (constant, some, 0),
+        3 => (constant, 0, some),
+        4 => (2, at_least(random, atoms), 0),
+        5 => (2, atom, some),
+        6 => (3, at_least(random, own), 0),
+        7 => (3, earlier, some),
+        8 => (binary, at_least(random, own), earlier),
+        _ => (binary, earlier, at_least(random, own)),
+    };
+    image[16 + 6 * own] = kind as u8;
+    set2(image, 16 + 6 * own + 2, left);
+    set2(image, 16 + 6 * own + 4, right);
+}
+
+/// The rows of a program image in the order in which damage must be done.
+pub const PROGRAM_ORDER: [u32; 6] = [26, 24, 23, 22, 25, 21];
+
+/// Breaks one of rows 21 to 26. The image is valid up to other damage, with at least one rule.
+pub fn program(random: &mut Random, image: &mut Vec<u8>, row: u32) -> usize {
+    let (atoms, rules) = (get2(image, 0), get2(image, 4));
+    match row {
+        21 => stump(random, image),
+        22 => match random.below(4) {
+            0 => set2(image, 0, at_least(random, 1025)),
+            1 => set2(image, 2, at_least(random, 3073)),
+            2 if atoms > 0 => set2(image, 2, random.below(atoms)),
+            _ => set2(image, 4, at_least(random, 6401)),
+        },
+        23 => reserved(random, image),
+        24 => field(random, image),
+        25 => return length(random, image),
+        26 => {
+            let own = random.below(rules);
+            rule(random, image, own);
+            return own;
+        }
+        _ => panic!("no row {row} of a program"),
+    }
+    0
+}
+
+/// Breaks the rule `own` in one of the ways in which a rule can be wrong.
+fn rule(random: &mut Random, image: &mut [u8], own: usize) {
+    let all = get2(image, 2);
+    let at = 16 + 10 * own;
+    let used = usize::from(image[at]) + usize::from(image[at + 1]) + usize::from(image[at + 2]);
+    match random.below(4) {
+        // Sums over 3, and among them sums that a byte cannot hold.
+        0 => {
+            let counts = random.pick(&[
+                [4, 0, 0],
+                [0, 4, 0],
+                [0, 0, 4],
+                [2, 1, 1],
+                [1, 2, 1],
+                [1, 1, 2],
+                [255, 1, 0],
+                [128, 128, 0],
+                [0, 254, 2],
+                [255, 255, 255],
+                [85, 86, 85],
+            ]);
+            image[at..at + 3].copy_from_slice(&counts);
+            if random.chance(50) {
+                image[at + 4..at + 10].fill(0);
+            }
+        }
+        1 if used > 0 && used <= 3 => {
+            let slot = random.below(used);
+            set2(image, at + 4 + 2 * slot, at_least(random, all));
+        }
+        2 if used < 3 => {
+            let slot = random.within(used, 2);
+            set2(image, at + 4 + 2 * slot, random.within(1, 65535));
+        }
+        _ => image[at + 3] = random.within(1, 255) as u8,
+    }
+}
+
+/// Row 9: `good` cut or stretched.
+pub fn reading_length(random: &mut Random, good: &mut Vec<u8>) -> usize {
+    let wanted = good.len();
+    if wanted > 0 && random.chance(50) {
+        let left = random.pick(&[0, wanted / 2, wanted - 1]);
+        good.truncate(left);
+    } else {
+        let more = random.within(1, 3);
+        good.resize(wanted + more, 0);
+    }
+    wanted
+}
+
+/// Row 10: one byte that an interpretation, or a candidate, may not have. There is at least one byte.
+pub fn reading_byte(random: &mut Random, good: &mut [u8], candidate: bool) -> usize {
+    let at = random.below(good.len());
+    good[at] = match random.below(3) {
+        0 if candidate => 1,
+        1 => random.within(3, 255) as u8,
+        _ => 3,
+    };
+    at
+}

@@ -1,0 +1,324 @@
+//! Books and programs as lists, and the meaning of both by the two worlds of here-and-there.
+//!
+//! Nothing here is shared with the reference: values are pairs of truths and no table of three values is used, flat
+//! rules are simplified in a separate pass, and answer sets are found by trying everything. It is slow on purpose.
+
+/// A node of a book; operands are numbers of earlier nodes.
+#[derive(Clone, Copy, Debug, PartialEq, Eq)]
+pub enum Node {
+    False,
+    True,
+    Atom(usize),
+    Not(usize),
+    And(usize, usize),
+    Or(usize, usize),
+    Implies(usize, usize),
+}
+
+/// A theory: its number of atoms, its nodes and its roots.
+#[derive(Clone, Debug, Default, PartialEq, Eq)]
+pub struct Book {
+    pub atoms: usize,
+    pub nodes: Vec<Node>,
+    pub roots: Vec<usize>,
+}
+
+/// A flat rule.
+#[derive(Clone, Debug, Default, PartialEq, Eq)]
+pub struct Rule {
+    pub heads: Vec<usize>,
+    pub positives: Vec<usize>,
+    pub negatives: Vec<usize>,
+}
+
+/// A program: A, B and the rules.
+#[derive(Clone, Debug, Default, PartialEq, Eq)]
+pub struct Program {
+    pub atoms: usize,
+    pub all: usize,
+    pub rules: Vec<Rule>,
+}
+
+/// A set of atoms, atom i as bit i.
+pub type Set = u32;
+
+fn put2(bytes: &mut Vec<u8>, number: usize) {
+    bytes.push((number % 256) as u8);
+    bytes.push((number / 256 % 256) as u8);
+}
+
+fn put4(bytes: &mut Vec<u8>, number: usize) {
+    put2(bytes, number % 65536);
+    put2(bytes, number / 65536);
+}
+
+fn get2(bytes: &[u8], at: usize) -> usize {
+    bytes[at] as usize + 256 * bytes[at + 1] as usize
+}
+
+impl Book {
+    /// The image of the book. Counts are not compared with the limits, so that images beyond them can be made.
+    pub fn image(&self) -> Vec<u8> {
+        let mut bytes = Vec::new();
+        put2(&mut bytes, self.atoms);
+        put2(&mut bytes, self.nodes.len());
+        put2(&mut bytes, self.roots.len());
+        put2(&mut bytes, 0);
+        put4(&mut bytes, 16);
+        put4(&mut bytes, 16 + 6 * self.nodes.len());
+        for &node in &self.nodes {
+            let (kind, left, right) = match node {
+                Node::False => (0, 0, 0),
+                Node::True => (1, 0, 0),
+                Node::Atom(a) => (2, a, 0),
+                Node::Not(x) => (3, x, 0),
+                Node::And(x, y) => (4, x, y),
+                Node::Or(x, y) => (5, x, y),
+                Node::Implies(x, y) => (6, x, y),
+            };
+            bytes.push(kind);
+            bytes.push(0);
+            put2(&mut bytes, left);
+            put2(&mut bytes, right);
+        }
+        for &root in &self.roots {
+            put2(&mut bytes, root);
+        }
+        bytes
+    }
+
+    /// Reads an image that a check has accepted.
+    pub fn read(image: &[u8]) -> Book {
+        let (atoms, nodes, roots) = (get2(image, 0), get2(image, 2), get2(image, 4));
+        let node = |own: usize| {
+            let at = 16 + 6 * own;
+            let (left, right) = (get2(image, at + 2), get2(image, at + 4));
+            match image[at] {
+                0 => Node::False,
+                1 => Node::True,
+                2 => Node::Atom(left),
+                3 => Node::Not(left),
+                4 => Node::And(left, right),
+                5 => Node::Or(left, right),
+                6 => Node::Implies(left, right),
+                kind => panic!("kind {kind} in a checked image"),
+            }
+        };
+        let root = |own: usize| get2(image, 16 + 6 * nodes + 2 * own);
+        Book { atoms, nodes: (0..nodes).map(node).collect(), roots: (0..roots).map(root).collect() }
+    }
+
+    /// For every node, whether it holds here and whether it holds there.
+    pub fn truths(&self, here: &[bool], there: &[bool]) -> Vec<(bool, bool)> {
+        let mut truths: Vec<(bool, bool)> = Vec::new();
+        for &node in &self.nodes {
+            truths.push(match node {
+                Node::False => (false, false),
+                Node::True => (true, true),
+                Node::Atom(a) => (here[a], there[a]),
+                Node::Not(x) => (!truths[x].0 && !truths[x].1, !truths[x].1),
+                Node::And(x, y) => (truths[x].0 && truths[y].0, truths[x].1 && truths[y].1),
+                Node::Or(x, y) => (truths[x].0 || truths[y].0, truths[x].1 || truths[y].1),
+                Node::Implies(x, y) => {
+                    let here = !truths[x].0 || truths[y].0;
+                    let there = !truths[x].1 || truths[y].1;
+                    (here && there, there)
+                }
+            });
+        }
+        truths
+    }
+
+    /// Whether every root holds here.
+    pub fn satisfied(&self, here: &[bool], there: &[bool]) -> bool {
+        let truths = self.truths(here, there);
+        self.roots.iter().all(|&root| truths[root].0)
+    }
+
+    /// The answer sets, ascending.
+    pub fn answer_sets(&self) -> Vec<Set> {
+        answer_sets(self.atoms, |here, there| self.satisfied(here, there))
+    }
+
+    /// The value of every label in order, under a reading.
+    pub fn labels(&self, reading: &[u8]) -> Vec<u8> {
+        let (here, there) = worlds(reading);
+        let truths = self.truths(&here, &there);
+        let value = |(here, there): (bool, bool)| u8::from(here) + u8::from(there);
+        let mut labels = Vec::new();
+        for (own, node) in self.nodes.iter().enumerate() {
+            if matches!(node, Node::Not(_) | Node::And(..) | Node::Or(..) | Node::Implies(..)) {
+                labels.push(value(truths[own]));
+            }
+            if let Node::Implies(_, right) = *node {
+                labels.push(if truths[right].1 { 0 } else { 2 });
+            }
+        }
+        labels
+    }
+
+    /// Both books in one, over the same atoms.
+    pub fn beside(&self, other: &Book) -> Book {
+        assert_eq!(self.atoms, other.atoms);
+        let by = self.nodes.len();
+        let moved = other.nodes.iter().map(|&node| match node {
+            Node::Not(x) => Node::Not(x + by),
+            Node::And(x, y) => Node::And(x + by, y + by),
+            Node::Or(x, y) => Node::Or(x + by, y + by),
+            Node::Implies(x, y) => Node::Implies(x + by, y + by),
+            leaf => leaf,
+        });
+        Book {
+            atoms: self.atoms,
+            nodes: self.nodes.iter().copied().chain(moved).collect(),
+            roots: self.roots.iter().copied().chain(other.roots.iter().map(|&root| root + by)).collect(),
+        }
+    }
+
+    /// The flat program of the book.
+    pub fn flat(&self) -> Program {
+        const FALSE: usize = usize::MAX;
+        const TRUE: usize = usize::MAX - 1;
+        let mut all = self.atoms;
+        let mut terms: Vec<usize> = Vec::new();
+        let mut rules: Vec<Rule> = Vec::new();
+        let mut rule = |heads: &[usize], positives: &[usize], negatives: &[usize]| {
+            rules.push(Rule { heads: heads.to_vec(), positives: positives.to_vec(), negatives: negatives.to_vec() })
+        };
+        for &node in &self.nodes {
+            let l = all;
+            all += match node {
+                Node::False | Node::True | Node::Atom(_) => 0,
+                Node::Not(_) | Node::And(..) | Node::Or(..) => 1,
+                Node::Implies(..) => 2,
+            };
+            terms.push(match node {
+                Node::False => FALSE,
+                Node::True => TRUE,
+                Node::Atom(a) => a,
+                _ => l,
+            });
+            match node {
+                Node::False | Node::True | Node::Atom(_) => {}
+                Node::Not(x) => {
+                    rule(&[l], &[], &[terms[x]]);
+                    rule(&[], &[l, terms[x]], &[]);
+                }
+                Node::And(x, y) => {
+                    rule(&[terms[x]], &[l], &[]);
+                    rule(&[terms[y]], &[l], &[]);
+                    rule(&[l], &[terms[x], terms[y]], &[]);
+                }
+                Node::Or(x, y) => {
+                    rule(&[l], &[terms[x]], &[]);
+                    rule(&[l], &[terms[y]], &[]);
+                    rule(&[terms[x], terms[y]], &[l], &[]);
+                }
+                Node::Implies(x, y) => {
+                    let m = l + 1;
+                    rule(&[terms[y]], &[l, terms[x]], &[]);
+                    rule(&[l], &[], &[terms[x]]);
+                    rule(&[l], &[terms[y]], &[]);
+                    rule(&[terms[x], m, l], &[], &[]);
+                    rule(&[m], &[], &[terms[y]]);
+                    rule(&[], &[m, terms[y]], &[]);
+                }
+            }
+        }
+        for &root in &self.roots {
+            rule(&[terms[root]], &[], &[]);
+        }
+        rules.retain(|rule| {
+            !rule.heads.contains(&TRUE) && !rule.positives.contains(&FALSE) && !rule.negatives.contains(&TRUE)
+        });
+        for rule in &mut rules {
+            rule.heads.retain(|&term| term != FALSE);
+            rule.positives.retain(|&term| term != TRUE);
+            rule.negatives.retain(|&term| term != FALSE);
+        }
+        Program { atoms: self.atoms, all, rules }
+    }
+}
+
+impl Program {
+    /// The image of the program; counts are not compared with the limits.
+    pub fn image(&self) -> Vec<u8> {
+        let mut bytes = Vec::new();
+        put2(&mut bytes, self.atoms);
+        put2(&mut bytes, self.all);
+        put2(&mut bytes, self.rules.len());
+        put2(&mut bytes, 0);
+        put4(&mut bytes, 16);
+        put4(&mut bytes, 16 + 10 * self.rules.len());
+        for rule in &self.rules {
+            let parts = [&rule.heads, &rule.positives, &rule.negatives];
+            parts.iter().for_each(|part| bytes.push(part.len() as u8));
+            bytes.push(0);
+            let mut slots: Vec<usize> = parts.into_iter().flatten().copied().collect();
+            slots.resize(3, 0);
+            slots.into_iter().for_each(|slot| put2(&mut bytes, slot));
+        }
+        bytes
+    }
+
+    /// Reads an image that a check has accepted.
+    pub fn read(image: &[u8]) -> Program {
+        let rule = |own: usize| {
+            let at = 16 + 10 * own;
+            let slots: Vec<usize> = (0..3).map(|slot| get2(image, at + 4 + 2 * slot)).collect();
+            let heads = image[at] as usize;
+            let positives = heads + image[at + 1] as usize;
+            let negatives = positives + image[at + 2] as usize;
+            Rule {
+                heads: slots[..heads].to_vec(),
+                positives: slots[heads..positives].to_vec(),
+                negatives: slots[positives..negatives].to_vec(),
+            }
+        };
+        let rules = (0..get2(image, 4)).map(rule).collect();
+        Program { atoms: get2(image, 0), all: get2(image, 2), rules }
+    }
+
+    /// Whether every rule holds here, read as body implies head.
+    pub fn satisfied(&self, here: &[bool], there: &[bool]) -> bool {
+        self.rules.iter().all(|rule| {
+            let holds = |world: &[bool]| {
+                let body =
+                    rule.positives.iter().all(|&a| world[a]) && rule.negatives.iter().all(|&a| !here[a] && !there[a]);
+                !body || rule.heads.iter().any(|&a| world[a])
+            };
+            holds(here) && holds(there)
+        })
+    }
+
+    /// The answer sets over all atoms, ascending.
+    pub fn answer_sets(&self) -> Vec<Set> {
+        answer_sets(self.all, |here, there| self.satisfied(here, there))
+    }
+}
+
+/// The two worlds of a reading.
+pub fn worlds(reading: &[u8]) -> (Vec<bool>, Vec<bool>) {
+    (reading.iter().map(|&byte| byte == 2).collect(), reading.iter().map(|&byte| byte != 0).collect())
+}
+
+/// The members of a set as a list of truths.
+pub fn members(set: Set, atoms: usize) -> Vec<bool> {
+    (0..atoms).map(|atom| set >> atom & 1 == 1).collect()
+}
+
+/// The reading with 2 on `here`, 1 on the rest of `there`, 0 elsewhere.
+pub fn reading(here: Set, there: Set, atoms: usize) -> Vec<u8> {
+    (0..atoms).map(|atom| (here >> atom & 1) as u8 + (there >> atom & 1) as u8).collect()
+}
+
+/// All sets that satisfy and of which no proper subset, taken as the world here, does.
+pub fn answer_sets(atoms: usize, satisfied: impl Fn(&[bool], &[bool]) -> bool) -> Vec<Set> {
+    (0..1 << atoms)
+        .filter(|&there| {
+            let world = members(there, atoms);
+            satisfied(&world, &world)
+                && (0..there).filter(|here| here & there == *here).all(|here| !satisfied(&members(here, atoms), &world))
+        })
+        .collect()
+}

@@ -1,0 +1,302 @@
+//! The facts that the specification lists, one by one.
+
+use super::*;
+use crate::formula;
+use crate::plain::{Book, Node, Program, Rule};
+use crate::worked::CASES;
+
+fn accepted(result: usize) -> Answer {
+    Answer { number: 0, place: 0, result }
+}
+
+fn refused(number: u32, place: usize) -> Answer {
+    Answer { number, place, result: 0 }
+}
+
+fn listed(image: &[u8]) -> Vec<u32> {
+    let mut out = [0; 8192];
+    let answer = list_sets(image, &mut out);
+    assert_eq!((answer.number, answer.place), (0, 0));
+    out[..2 * answer.result].chunks(2).map(|pair| u32::from(pair[0]) + 256 * u32::from(pair[1])).collect()
+}
+
+fn translated(image: &[u8]) -> (usize, Vec<u8>) {
+    let mut out = vec![0xEE; 70_000];
+    let answer = translate(image, &mut out);
+    assert_eq!((answer.number, answer.place), (0, 0));
+    let length = 16 + 10 * answer.result;
+    assert!(out[length..].iter().all(|&byte| byte == 0xEE));
+    out.truncate(length);
+    (answer.result, out)
+}
+
+fn p1() -> Book {
+    Book { atoms: 1, nodes: vec![Node::Atom(0), Node::Not(0), Node::Or(0, 1)], roots: vec![2] }
+}
+
+#[test]
+fn answer_sets_of_the_bench_cases() {
+    for case in CASES {
+        let book = formula::book(case.atoms, case.theory);
+        let expected: Vec<u32> = case.sets.iter().map(|set| formula::set(case.atoms, set)).collect();
+        assert_eq!(listed(&book.image()), expected, "{}", case.source);
+        assert_eq!(book.answer_sets(), expected, "{}", case.source);
+    }
+}
+
+#[test]
+fn p1_bytes() {
+    let image = p1().image();
+    let expected = [
+        0x01, 0x00, 0x03, 0x00, 0x01, 0x00, 0x00, 0x00, 0x10, 0x00, 0x00, 0x00, 0x22, 0x00, 0x00, 0x00, //
+        0x02, 0x00, 0x00, 0x00, 0x00, 0x00, //
+        0x03, 0x00, 0x00, 0x00, 0x00, 0x00, //
+        0x05, 0x00, 0x00, 0x00, 0x01, 0x00, //
+        0x02, 0x00,
+    ];
+    assert_eq!(image, expected);
+    assert_eq!(check_theory(&image), accepted(1));
+    let (_, program) = translated(&image);
+    let header = [0x01, 0x00, 0x03, 0x00, 0x06, 0x00, 0x00, 0x00, 0x10, 0x00, 0x00, 0x00, 0x4C, 0x00, 0x00, 0x00];
+    assert_eq!(program[..16], header);
+    assert_eq!(program.len(), 0x4C);
+    let mut out = [0; 4];
+    assert_eq!(list_sets(&image, &mut out), accepted(2));
+    assert_eq!(out, [0, 0, 1, 0]);
+}
+
+#[test]
+fn p2_is_satisfied_by_one_and_by_two() {
+    let image = formula::book("p", "~~p").image();
+    assert_eq!([0, 1, 2].map(|value| evaluate_theory(&image, &[value]).result), [0, 1, 1]);
+    assert_eq!(test_theory(&image, &[2]), accepted(0));
+}
+
+#[test]
+fn p4_sizes() {
+    let nodes = vec![Node::Atom(0), Node::Atom(1), Node::Atom(2), Node::Implies(2, 1), Node::Implies(3, 0)];
+    let image = Book { atoms: 3, nodes, roots: vec![4] }.image();
+    let (rules, program) = translated(&image);
+    assert_eq!((rules, program.len(), program[2]), (13, 146, 7));
+    let mut out = [0; 7];
+    assert_eq!(extend(&image, &[2, 0, 0], &mut out), accepted(7));
+    // (r implies q) is 2 and q's negation 2; the outer implication is 2 and p's negation 0.
+    assert_eq!(out, [2, 0, 0, 2, 2, 2, 0]);
+    assert_eq!(evaluate_program(&program, &out), accepted(1));
+    assert_eq!(test_program(&program, &out), accepted(1));
+}
+
+#[test]
+fn p5_rules_in_order() {
+    let nodes = vec![Node::Atom(0), Node::False, Node::Implies(0, 1)];
+    let image = Book { atoms: 1, nodes, roots: vec![2] }.image();
+    let (_, program) = translated(&image);
+    let rule = |heads: &[usize], positives: &[usize], negatives: &[usize]| Rule {
+        heads: heads.to_vec(),
+        positives: positives.to_vec(),
+        negatives: negatives.to_vec(),
+    };
+    let read = Program::read(&program);
+    assert_eq!((read.atoms, read.all), (1, 3));
+    assert_eq!(
+        read.rules,
+        [
+            rule(&[], &[1, 0], &[]),
+            rule(&[1], &[], &[0]),
+            rule(&[0, 2, 1], &[], &[]),
+            rule(&[2], &[], &[]),
+            rule(&[1], &[], &[])
+        ]
+    );
+}
+
+#[test]
+fn p6_bytes() {
+    let image = Book { atoms: 0, nodes: vec![Node::False], roots: vec![0] }.image();
+    assert_eq!(image.len(), 24);
+    let (rules, program) = translated(&image);
+    assert_eq!((rules, program.len()), (1, 26));
+    assert_eq!(program[16..], [0; 10]);
+}
+
+#[test]
+fn constants_drop_literals_or_whole_rules() {
+    // Both sides of an implication constant: every pair of them, by the rules with the constants put in.
+    let program = |left: Node, right: Node| {
+        let image = Book { atoms: 0, nodes: vec![left, right, Node::Implies(0, 1)], roots: vec![] }.image();
+        let read = Program::read(&translated(&image).1);
+        assert_eq!(read, Book::read(&image).flat());
+        read.rules.iter().map(|rule| (rule.heads.clone(), rule.positives.clone())).collect::<Vec<_>>()
+    };
+    let (l, m) = (0, 1);
+    assert_eq!(program(Node::False, Node::False), [(vec![l], vec![]), (vec![m, l], vec![]), (vec![m], vec![])]);
+    assert_eq!(
+        program(Node::False, Node::True),
+        [(vec![l], vec![]), (vec![l], vec![]), (vec![m, l], vec![]), (vec![], vec![m])]
+    );
+    assert_eq!(program(Node::True, Node::False), [(vec![], vec![l]), (vec![m], vec![])]);
+    assert_eq!(program(Node::True, Node::True), [(vec![l], vec![]), (vec![], vec![m])]);
+}
+
+#[test]
+fn roots_are_facts_and_may_repeat() {
+    let (rules, _) = translated(&Book { atoms: 1, nodes: vec![Node::Atom(0)], roots: vec![0, 0, 0] }.image());
+    assert_eq!(rules, 3);
+    let (rules, _) = translated(&Book { atoms: 1, nodes: vec![Node::True], roots: vec![0, 0] }.image());
+    assert_eq!(rules, 0);
+}
+
+#[test]
+fn limits_of_a_theory() {
+    let book = |atoms: usize, nodes: usize, roots: usize| {
+        Book { atoms, nodes: vec![Node::True; nodes], roots: vec![0; roots] }.image()
+    };
+    for (image, answer) in [
+        (book(1024, 1, 1), accepted(1)),
+        (book(1025, 1, 1), refused(2, 0)),
+        (book(1, 1024, 1), accepted(1)),
+        (book(1, 1025, 1), refused(2, 0)),
+        (book(1, 1, 256), accepted(1)),
+        (book(1, 1, 257), refused(2, 0)),
+        (book(1024, 1024, 256), accepted(1)),
+        (book(0, 0, 0), accepted(1)),
+        (book(0, 0, 1), refused(7, 0)),
+    ] {
+        assert_eq!(check_theory(&image), answer);
+    }
+    assert_eq!(book(1024, 1024, 256).len(), 6672);
+}
+
+#[test]
+fn limits_of_a_program() {
+    let program =
+        |atoms: usize, all: usize, rules: usize| Program { atoms, all, rules: vec![Rule::default(); rules] }.image();
+    for (image, answer) in [
+        (program(1024, 1024, 1), accepted(1)),
+        (program(1025, 1025, 1), refused(22, 0)),
+        (program(0, 3072, 1), accepted(1)),
+        (program(0, 3073, 1), refused(22, 0)),
+        (program(5, 5, 1), accepted(1)),
+        (program(5, 4, 1), refused(22, 0)),
+        (program(0, 0, 6400), accepted(1)),
+        (program(0, 0, 6401), refused(22, 0)),
+    ] {
+        assert_eq!(check_program(&image), answer);
+    }
+}
+
+#[test]
+fn limits_of_a_candidate() {
+    let image = Book { atoms: 20, nodes: vec![], roots: vec![] }.image();
+    let (_, program) = translated(&image);
+    let candidate = |truths: usize| (0..20).map(|atom| if atom < truths { 2 } else { 0 }).collect::<Vec<u8>>();
+    assert_eq!(test_theory(&image, &candidate(16)), accepted(0));
+    assert_eq!(test_theory(&image, &candidate(17)), refused(11, 17));
+    assert_eq!(test_program(&program, &candidate(16)), accepted(0));
+    assert_eq!(test_program(&program, &candidate(17)), refused(11, 17));
+}
+
+#[test]
+fn limits_of_a_listing() {
+    let book = |atoms: usize| Book { atoms, nodes: vec![], roots: vec![] }.image();
+    assert_eq!(listed(&book(12)), [0]);
+    assert_eq!(list_sets(&book(13), &mut [0; 64]), refused(11, 13));
+    let mut short = [7; 1];
+    assert_eq!(list_sets(&book(12), &mut short), refused(8, 2));
+    assert_eq!(short, [7]);
+    // No sets need no room.
+    let none = formula::book("p", "false").image();
+    assert_eq!(list_sets(&none, &mut []), accepted(0));
+}
+
+#[test]
+fn room_for_a_program() {
+    let image = p1().image();
+    let mut out = [9; 76];
+    assert_eq!(translate(&image, &mut out[..75]), refused(8, 76));
+    assert_eq!(out, [9; 76]);
+    assert_eq!(translate(&image, &mut out), accepted(6));
+    let mut out = [9; 3];
+    assert_eq!(extend(&image, &[1], &mut out[..2]), refused(8, 3));
+    assert_eq!(out, [9; 3]);
+    assert_eq!(extend(&image, &[1], &mut out), accepted(3));
+    assert_eq!(out, [1, 0, 1]);
+}
+
+#[test]
+fn the_largest_program_of_a_book() {
+    let mut nodes = vec![Node::Atom(0)];
+    nodes.extend((1..1024).map(|own| Node::Implies(own - 1, 0)));
+    let image = Book { atoms: 1024, nodes, roots: vec![1023; 256] }.image();
+    let (rules, program) = translated(&image);
+    assert_eq!(rules, 6394);
+    assert_eq!(usize::from(program[2]) + 256 * usize::from(program[3]), 1024 + 2 * 1023);
+    assert_eq!(check_program(&program), accepted(1));
+}
+
+#[test]
+fn rows_of_a_theory() {
+    let good = p1().image();
+    let with = |at: usize, byte: u8| {
+        let mut image = good.clone();
+        image[at] = byte;
+        check_theory(&image)
+    };
+    assert_eq!(check_theory(&good[..15]), refused(1, 0));
+    assert_eq!(check_theory(&[]), refused(1, 0));
+    assert_eq!(with(7, 1), refused(3, 0));
+    assert_eq!(with(8, 17), refused(4, 0));
+    assert_eq!(with(15, 1), refused(4, 0));
+    assert_eq!(check_theory(&good[..35]), refused(5, 36));
+    assert_eq!(with(16, 7), refused(6, 0));
+    assert_eq!(with(17, 1), refused(6, 0));
+    assert_eq!(with(18, 1), refused(6, 0));
+    assert_eq!(with(26, 1), refused(6, 1));
+    assert_eq!(with(30, 2), refused(6, 2));
+    assert_eq!(with(34, 3), refused(7, 0));
+}
+
+#[test]
+fn rows_of_a_program() {
+    let (_, good) = translated(&p1().image());
+    let with = |changes: &[(usize, u8)]| {
+        let mut image = good.clone();
+        changes.iter().for_each(|&(at, byte)| image[at] = byte);
+        check_program(&image)
+    };
+    assert_eq!(check_program(&good), accepted(1));
+    assert_eq!(check_program(&good[..15]), refused(21, 0));
+    assert_eq!(with(&[(2, 0)]), refused(22, 0));
+    assert_eq!(with(&[(6, 1)]), refused(23, 0));
+    assert_eq!(with(&[(8, 15)]), refused(24, 0));
+    assert_eq!(with(&[(12, 0x4D)]), refused(24, 0));
+    assert_eq!(check_program(&good[..75]), refused(25, 76));
+    assert_eq!(with(&[(19, 1)]), refused(26, 0));
+    assert_eq!(with(&[(30, 3)]), refused(26, 1));
+    for [heads, positives, negatives] in [[255, 1, 0], [128, 128, 0], [0, 254, 2], [2, 1, 1]] {
+        assert_eq!(with(&[(26, heads), (27, positives), (28, negatives)]), refused(26, 1));
+    }
+    // The last rule is a fact: its second and third slots are not used.
+    assert_eq!(with(&[(72, 1)]), refused(26, 5));
+    assert_eq!(with(&[(74, 1)]), refused(26, 5));
+}
+
+#[test]
+fn rows_of_an_interpretation() {
+    let image = p1().image();
+    assert_eq!(evaluate_theory(&image, &[]), refused(9, 1));
+    assert_eq!(evaluate_theory(&image, &[3]), refused(10, 0));
+    assert_eq!(evaluate_theory(&image, &[1]), accepted(0));
+    assert_eq!(test_theory(&image, &[1]), refused(10, 0));
+    assert_eq!(test_theory(&image, &[0, 0]), refused(9, 1));
+}
+
+#[test]
+fn values_by_the_tables() {
+    use super::value::Value;
+    let values = [0, 1, 2].map(Value::of);
+    assert_eq!(values.map(|x| x.not().byte()), [2, 0, 0]);
+    assert_eq!(values.map(|x| values.map(|y| x.and(y).byte())), [[0, 0, 0], [0, 1, 1], [0, 1, 2]]);
+    assert_eq!(values.map(|x| values.map(|y| x.or(y).byte())), [[0, 1, 2], [1, 1, 2], [2, 2, 2]]);
+    assert_eq!(values.map(|x| values.map(|y| x.implies(y).byte())), [[2, 2, 2], [0, 2, 2], [0, 1, 2]]);
+}

@@ -1,0 +1,125 @@
+use super::value::Value;
+use super::{groups, half, refuse, word, Outcome, HEADER};
+
+pub const MOST_ATOMS: usize = 1024;
+pub const MOST_NODES: usize = 1024;
+pub const MOST_ROOTS: usize = 256;
+
+/// A theory image that has passed its check, split into its parts.
+pub struct Theory<'a> {
+    pub atoms: usize,
+    nodes: &'a [u8],
+    roots: &'a [u8],
+}
+
+/// A node of a checked theory. Operands are numbers of earlier nodes.
+#[derive(Clone, Copy)]
+pub enum Node {
+    False,
+    True,
+    Atom(usize),
+    Not(usize),
+    And(usize, usize),
+    Or(usize, usize),
+    Implies(usize, usize),
+}
+
+/// The values of the nodes. One array serves all the evaluations of a call.
+pub type Values = [Value; MOST_NODES];
+
+pub const NO_VALUES: Values = [Value::FALSE; MOST_NODES];
+
+impl<'a> Theory<'a> {
+    /// Rows 1 to 7.
+    pub fn check(image: &'a [u8]) -> Outcome<Theory<'a>> {
+        if image.len() < HEADER {
+            return refuse(1, 0);
+        }
+        let (header, body) = image.split_at(HEADER);
+        let [atoms, nodes, roots] = [half(header, 0), half(header, 2), half(header, 4)];
+        if atoms > MOST_ATOMS || nodes > MOST_NODES || roots > MOST_ROOTS {
+            return refuse(2, 0);
+        }
+        if half(header, 6) != 0 {
+            return refuse(3, 0);
+        }
+        let roots_at = HEADER + 6 * nodes;
+        if word(header, 8) != HEADER || word(header, 12) != roots_at {
+            return refuse(4, 0);
+        }
+        let length = roots_at + 2 * roots;
+        if image.len() != length {
+            return refuse(5, length);
+        }
+        let count = nodes;
+        let (nodes, roots) = body.split_at(6 * count);
+        if let Some((bad, _)) = groups(nodes).enumerate().find(|&(own, node)| !fits(node, own, atoms)) {
+            return refuse(6, bad);
+        }
+        if let Some(bad) = groups::<2>(roots).position(|root| half(root, 0) >= count) {
+            return refuse(7, bad);
+        }
+        Ok(Theory { atoms, nodes, roots })
+    }
+
+    pub fn nodes(&self) -> impl Iterator<Item = Node> + 'a {
+        groups(self.nodes).map(node)
+    }
+
+    /// The node numbers of the roots.
+    pub fn roots(&self) -> impl Iterator<Item = usize> + 'a {
+        groups::<2>(self.roots).map(|root| half(root, 0))
+    }
+
+    /// The number of all atoms, labels included.
+    pub fn all(&self) -> usize {
+        let labels: usize = groups::<6>(self.nodes).map(|node| [0, 0, 0, 1, 1, 1, 2][usize::from(node[0])]).sum();
+        self.atoms + labels
+    }
+
+    /// Fills in the value of every node under `reading`.
+    pub fn evaluate(&self, reading: &[u8], values: &mut Values) {
+        for (own, node) in self.nodes().enumerate() {
+            values[own] = match node {
+                Node::False => Value::FALSE,
+                Node::True => Value::TRUE,
+                Node::Atom(atom) => Value::of(reading[atom]),
+                Node::Not(x) => values[x].not(),
+                Node::And(x, y) => values[x].and(values[y]),
+                Node::Or(x, y) => values[x].or(values[y]),
+                Node::Implies(x, y) => values[x].implies(values[y]),
+            };
+        }
+    }
+
+    pub fn satisfied(&self, reading: &[u8], values: &mut Values) -> bool {
+        self.evaluate(reading, values);
+        self.roots().all(|root| values[root] == Value::TRUE)
+    }
+}
+
+/// Whether the six bytes obey their kind's row, as node number `own` over `atoms` atoms.
+fn fits(node: &[u8; 6], own: usize, atoms: usize) -> bool {
+    let (left, right) = (half(node, 2), half(node, 4));
+    node[1] == 0
+        && match node[0] {
+            0 | 1 => left == 0 && right == 0,
+            2 => left < atoms && right == 0,
+            3 => left < own && right == 0,
+            4..=6 => left < own && right < own,
+            _ => false,
+        }
+}
+
+fn node(bytes: &[u8; 6]) -> Node {
+    let (left, right) = (half(bytes, 2), half(bytes, 4));
+    match bytes[0] {
+        0 => Node::False,
+        1 => Node::True,
+        2 => Node::Atom(left),
+        3 => Node::Not(left),
+        4 => Node::And(left, right),
+        5 => Node::Or(left, right),
+        _ => Node::Implies(left, right),
+    }
+}
