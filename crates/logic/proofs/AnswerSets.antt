@@ -1,6 +1,6 @@
 -- Answer sets are the equilibrium models, and the computed list has exactly the answer sets: the same two conditions, read at each set.
 use mathlib.Core.Path.{_≡_, refl, sym, ap, subst, _∙_}
-use mathlib.Core.Logic.{_↔_, _⊎_, inl, inr, ⊎-elim}
+use mathlib.Core.Logic.{_↔_, ⊎-elim}
 use mathlib.Core.Bool.{Bool, true, false, not, _&&_, cond}
 use mathlib.Core.List.{List, [], _∷_, List·Memᴰ, List·Memᴰ·head, List·Memᴰ·tail, List·Memᴰ·cases-cons, List·Memᴰ·not-nil}
 use Prim.Native.Nat.{ℕ}
@@ -8,7 +8,7 @@ use lib.ListN.{length}
 use borrow.Author.Tests.{not-true}
 use Rattle.logic.specs.Formula.{Formula, satisfies}
 use Rattle.logic.specs.Atoms.{Atoms, inside, proper, reading, allSets}
-use Rattle.logic.specs.HereAndThere.{Model, Equilibrium}
+use Rattle.logic.specs.HereAndThere.{Equilibrium}
 use Rattle.logic.specs.AnswerSet.{AnswerSet, each, those, isAnswerSet, answerSets}
 use Rattle.logic.proofs.Bools.{&&-split, &&-join, false-of, not-both}
 use Rattle.logic.proofs.Sets.{inside-refl, allSets-each, each-allSets, length-inside}

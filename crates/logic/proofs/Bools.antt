@@ -1,7 +1,7 @@
 -- Laws of Bool that turn a computed test into facts and back, each by its cases.
 use mathlib.Core.Path.{_≡_, refl, sym, _∙_}
 use mathlib.Core.Logic.{_↔_}
-use mathlib.Core.Bool.{Bool, true, false, not, _&&_, Bool·beq, false≢true, and-eq-true-iff}
+use mathlib.Core.Bool.{Bool, true, false, _&&_, Bool·beq, false≢true, and-eq-true-iff}
 
 pub &&-split : (a b : Bool) → (a && b) ≡ true → (a ≡ true) × (b ≡ true)
 &&-split a b h = and-eq-true-iff a b .0 h

@@ -1,10 +1,9 @@
 -- Laws of the value of formulas and of satisfaction, by induction on the formula or on the list.
-use mathlib.Core.Path.{_≡_, refl, sym, ap, ap₂}
+use mathlib.Core.Path.{_≡_, refl, sym, ap₂}
 use mathlib.Core.Logic.{_↔_, ⊎-elim}
-use mathlib.Core.Bool.{Bool, true, false, _&&_, and-assoc}
+use mathlib.Core.Bool.{true, _&&_, and-assoc}
 use mathlib.Core.List.{List, [], _∷_, _++_, map, List·Memᴰ, List·Memᴰ·head, List·Memᴰ·tail, List·Memᴰ·cases-cons, List·Memᴰ·not-nil}
 use lib.ListN.{length, List·getD-append, List·getD-map}
-use Rattle.logic.specs.declared.Value.{Value}
 use Rattle.logic.specs.declared.Value.the-variants.{Neither, Both}
 use Rattle.logic.specs.Value.{trueHere}
 use Rattle.logic.specs.Formula.{Formula, falsum, verum, atom, neg, conj, disj, impl, Reading, value, satisfies, Over, AllOver}

@@ -1,14 +1,12 @@
 -- Answer sets as readings: the set T stands as the reading with 2 on T, and the readings of its subsets are those that `up` takes to it.
 use mathlib.Core.Path.{_≡_, refl, sym, ap, ap₂, subst, _∙_}
 use mathlib.Core.Logic.{_↔_}
-use mathlib.Core.Bool.{Bool, true, false, not, _&&_, _||_}
+use mathlib.Core.Bool.{Bool, true, false, not, _||_}
 use mathlib.Core.List.{List, [], _∷_, map}
 use Prim.Native.Nat.{ℕ}
 use lib.ListN.{length}
 use borrow.Author.Tests.{not-true}
-use Rattle.logic.specs.declared.Value.{Value}
 use Rattle.logic.specs.declared.Value.the-variants.{Neither, There, Both}
-use Rattle.logic.specs.Value.{trueHere, trueThere}
 use Rattle.logic.specs.Formula.{Formula, Reading, satisfies}
 use Rattle.logic.specs.Atoms.{Atoms, inside, proper, mark, reading, hereOf, thereOf}
 use Rattle.logic.specs.AnswerSet.{AnswerSet}

@@ -1,7 +1,7 @@
 -- Laws of the values: the tables are what document 01 says of them by number. Each is computed at all values.
-use mathlib.Core.Path.{_≡_, refl, sym}
-use mathlib.Core.Logic.{_↔_, ⊎-elim}
-use mathlib.Core.Bool.{Bool, true, false, cond, Bool·beq, false≢true}
+use mathlib.Core.Path.{_≡_, refl}
+use mathlib.Core.Logic.{_↔_}
+use mathlib.Core.Bool.{true, cond, false≢true}
 use Prim.Native.Nat.{ℕ, zero, suc, min, max, _≤_}
 use native.Mathlib.Omega.{arith}
 use lib.Dec.{leb, eqb, lit≤}
@@ -9,7 +9,7 @@ use borrow.Author.Tests.{eqb-true}
 use Rattle.logic.specs.declared.Value.{Value}
 use Rattle.logic.specs.declared.Value.the-variants.{Neither, There, Both}
 use Rattle.logic.specs.Value.{number, ofByte, smaller, larger, negation, implication, trueHere, trueThere}
-use Rattle.logic.proofs.Finite.{every, same, same-sound, agree₁, agree₂}
+use Rattle.logic.proofs.Finite.{same, same-sound, agree₁, agree₂}
 
 -- The four operations, by number.
 

@@ -1,18 +1,18 @@
 -- The three values compute the logic of here-and-there: at each world a formula's value says its truth there, by induction on the formula.
 use mathlib.Core.Path.{_≡_, refl, sym, ap, ap₂, _∙_}
-use mathlib.Core.Logic.{_↔_, Iff·trans, Iff·symm}
-use mathlib.Core.Bool.{Bool, true, false, not, _&&_, _||_, Bool·beq}
-use mathlib.Core.List.{List, map, List·Memᴰ}
+use mathlib.Core.Logic.{_↔_, Iff·symm}
+use mathlib.Core.Bool.{Bool, true, not, _&&_, _||_, Bool·beq}
+use mathlib.Core.List.{List}
 use Prim.Native.Nat.{ℕ, _≤_}
 use lib.ListN.{List·getD-map}
 use Rattle.logic.specs.declared.Value.{Value}
-use Rattle.logic.specs.declared.Value.the-variants.{Neither, There, Both}
+use Rattle.logic.specs.declared.Value.the-variants.{Neither, Both}
 use Rattle.logic.specs.Value.{number, smaller, larger, negation, implication, trueHere, trueThere}
 use Rattle.logic.specs.Formula.{Formula, falsum, verum, atom, neg, conj, disj, impl, Reading, value, satisfies}
 use Rattle.logic.specs.Atoms.{Atoms, inside, reading, hereOf, thereOf}
-use Rattle.logic.specs.HereAndThere.{World, here, there, before, everyFrom, verified, truth, Model}
+use Rattle.logic.specs.HereAndThere.{World, here, there, everyFrom, truth, Model}
 use Rattle.logic.proofs.Bools.{beq-sound}
-use Rattle.logic.proofs.Finite.{every, agree₁, agree₂}
+use Rattle.logic.proofs.Finite.{agree₁, agree₂}
 use Rattle.logic.proofs.Values.{trueHere-iff, trueThere-iff}
 use Rattle.logic.proofs.Formulas.{satisfies-each}
 use Rattle.logic.proofs.Sets.{hereOf-reading, thereOf-reading}

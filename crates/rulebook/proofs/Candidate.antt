@@ -1,5 +1,5 @@
 -- The rows of a candidate, 9, 10 and 11, behind those of an image none of which applies: what each step of a test gives. From the laws of an answer.
-use mathlib.Core.Path.{_≡_, refl, sym, _∙_}
+use mathlib.Core.Path.{_≡_, sym, _∙_}
 use mathlib.Core.Bool.{true}
 use mathlib.Core.List.{List, [], _∷_, _++_}
 use Prim.Native.Nat.{ℕ, _≤_, _<_}

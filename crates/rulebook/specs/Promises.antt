@@ -2,7 +2,7 @@
 use mathlib.Core.Path.{_≡_, refl, sym, _∙_}
 use mathlib.Core.Logic.{_↔_}
 use mathlib.Core.Bool.{Bool, true, not}
-use mathlib.Core.List.{List, [], _∷_, _++_, map, List·Memᴰ}
+use mathlib.Core.List.{List, _++_, map, List·Memᴰ}
 use Prim.Native.Nat.{ℕ, suc, _≤_, _<_}
 use lib.Dec.{ltb}
 use lib.ListN.{length, getD, take, drop}

@@ -12,7 +12,6 @@ use Rattle.program.proofs.Rules.{program-value}
 use borrow.Author.Needs.{needs}
 use Rattle.stable.proofs.satisfied.Statement.{statement}
 use Rattle.stable.proofs.satisfied.Tie as tie
-use Rattle.theory.proofs.satisfied.Reads as satisfied-reads′
 
 satisfied-requires : tie.Need-satisfied-requires
 satisfied-requires c κs = let pre = c .before .before .before .before .pre in (rw (c .if1 .taken) at (pre .0), rw (c .if1 .taken) at (pre .1 .0))
