@@ -64,6 +64,14 @@ pub none-past : (rs qs : List Row) → none rs ≡ true → none (rs ++ qs) ≡ 
 none-past [] qs n = refl
 none-past (r ∷ rs) qs n = let t = none-cons r rs n in rw (t .0) (none-past rs qs (t .1))
 
+-- where no row of two lists applies, none of either does
+pub none-split : (rs qs : List Row) → none (rs ++ qs) ≡ true → (none rs ≡ true) × (none qs ≡ true)
+none-split [] qs h = (refl, h)
+none-split (r ∷ rs) qs h =
+    let first = none-cons r (rs ++ qs) h in
+    let rest = none-split rs qs (first .1) in
+    (rw (first .0) (rest .0), rest .1)
+
 -- where the answer refuses, some row applies
 pub none-refused : (rs : List Row) (x : ℕ) {a : Answer} → a ≡ answer rs x → (a .number ≡ 0 → ⊥) → none rs ≡ false
 none-refused rs x e h = cases (none rs) (λ n. absurd (h (ap (λ (b : Answer). b .number) (e ∙ answer-none rs x n)))) (λ n. n)

@@ -14,8 +14,10 @@ use Rattle.theory.specs.Book.{bookFormulas}
 use Rattle.theory.specs.Image.{atomCount, bookOf}
 use Rattle.theory.specs.Rows.{theoryRows}
 use Rattle.program.specs.Program.{satisfiesProgram, programFormulas}
-use Rattle.program.specs.Image.{sizeOf, programOf}
+use Rattle.program.specs.Image.{sizeOf, programOf, imageOf}
 use Rattle.program.specs.Rows.{programRows}
+use Rattle.translation.specs.Flat.{flat}
+use Rattle.translation.specs.Outcome.{ruleTotal, translateRows}
 use Rattle.stable.specs.Subset.{setOf}
 use Rattle.stable.specs.Listing.{setsOf, setsRows, listing}
 
@@ -45,6 +47,13 @@ evaluateProgramRows p r = programRows p ++ readingRows (sizeOf p) r
 
 abbrev pub evaluateProgram : (program reading : List ℕ) → Answer
 evaluateProgram p r = answer (evaluateProgramRows p r) (yes (satisfiesProgram (readingOf r) (programOf p)))
+
+-- Translating: rows 1-7, 14, 8; the result is K, and the bytes are the flat program's image.
+abbrev pub translateCallRows : (theory out : List ℕ) → List Row
+translateCallRows t out = theoryRows t ++ translateRows t (length out)
+
+abbrev pub translate : (theory out : List ℕ) → Outcome
+translate t out = outcome (answer (translateCallRows t out) (ruleTotal t)) (written (translateCallRows t out) (imageOf (flat (bookOf t))) out)
 
 -- The row of a candidate test's own: over 16 atoms true.
 abbrev pub row11True : (candidate : List ℕ) → Row

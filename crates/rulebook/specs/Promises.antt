@@ -7,10 +7,10 @@ use Prim.Native.Nat.{ℕ, suc, _≤_, _<_}
 use lib.Dec.{ltb}
 use lib.ListN.{length, getD, take, drop}
 use Rattle.refusal.specs.declared.Answer.{Answer}
-use Rattle.refusal.specs.Table.{none, Exact}
+use Rattle.refusal.specs.Table.{accepted, none, Exact}
 use Rattle.refusal.specs.First.{FirstAt}
-use Rattle.refusal.specs.Rows.{wrong, row10, argumentRows}
-use Rattle.refusal.proofs.Table.{answer-exact}
+use Rattle.refusal.specs.Rows.{wrong, row10, argumentRows, readingRows}
+use Rattle.refusal.proofs.Table.{answer-none, answer-exact}
 use Rattle.wire.specs.Wire.{Bytes}
 use Rattle.wire.specs.Outcome.{Outcome}
 use Rattle.wire.proofs.Outcome
@@ -43,14 +43,16 @@ use Rattle.translation.specs.Table.{labelCount}
 use Rattle.translation.specs.Flat.{flat}
 use Rattle.translation.specs.Extension.{extend, Extends, firstLabel}
 use Rattle.translation.specs.OneToOne.{OneToOne}
+use Rattle.translation.specs.Outcome.{ruleTotal, translateRows}
 use Rattle.translation.proofs.Extensions
 use Rattle.translation.proofs.Demand3
+use Rattle.translation.proofs.Bytes
 use Rattle.translation.proofs.BenchCases as programs
 use Rattle.stable.specs.Subset.{setOf}
 use Rattle.stable.specs.Number.{numberOf}
 use Rattle.stable.specs.Listing.{setsOf as bookSets, setsRows, listing, Ascending}
 use Rattle.stable.proofs.Listings
-use Rattle.rulebook.specs.Calls.{yes, checkTheory, evaluateTheoryRows, evaluateTheory, testTheoryRows, testTheory, listSetsRows, listSets, checkProgram, evaluateProgramRows, evaluateProgram, testProgramRows, testProgram}
+use Rattle.rulebook.specs.Calls.{yes, checkTheory, evaluateTheoryRows, evaluateTheory, translateCallRows, translate, testTheoryRows, testTheory, listSetsRows, listSets, checkProgram, evaluateProgramRows, evaluateProgram, testProgramRows, testProgram}
 
 -- Demand 1: no two outcomes meet a call's contract, and each row's number is given exactly where that row applies and no earlier one does.
 
@@ -78,6 +80,12 @@ evaluateProgram-unique p r a b e f = e ∙ sym f
 evaluateProgram-exact : (p r : List ℕ) → Exact (evaluateProgramRows p r) (yes (satisfiesProgram (readingOf r) (programOf p))) (evaluateProgram p r)
 evaluateProgram-exact p r = unfold programRows argumentRows in answer-exact (evaluateProgramRows p r) _ refl
 
+translate-unique : (t o : List ℕ) (a b : Outcome) → a ≡ translate t o → b ≡ translate t o → a ≡ b
+translate-unique t o a b p q = p ∙ sym q
+
+translate-exact : (t o : List ℕ) → Exact (translateCallRows t o) (ruleTotal t) (translate t o .answer)
+translate-exact t o = unfold theoryRows headerRows translateRows in answer-exact (translateCallRows t o) _ refl
+
 testTheory-unique : (t c : List ℕ) (a b : Answer) → a ≡ testTheory t c → b ≡ testTheory t c → a ≡ b
 testTheory-unique t c a b p q = p ∙ sym q
 
@@ -97,6 +105,13 @@ listSets-exact : (t o : List ℕ) → Exact (listSetsRows t o) (length (bookSets
 listSets-exact t o = unfold theoryRows headerRows setsRows in answer-exact (listSetsRows t o) _ refl
 
 -- A refusal leaves the output as it was; an acceptance writes the bytes and leaves those past them.
+
+translate-refused : (t o : List ℕ) → (translate t o .answer .number ≡ 0 → ⊥) → translate t o .out ≡ o
+translate-refused t o = Outcome.written-refused (translateCallRows t o) (ruleTotal t) (imageOf (flat (bookOf t))) o
+
+translate-accepted : (t o : List ℕ) → none (translateCallRows t o) ≡ true → let p = imageOf (flat (bookOf t)) in
+    (take (length p) (translate t o .out) ≡ p) × (drop (length p) (translate t o .out) ≡ drop (length p) o)
+translate-accepted t o = Outcome.written-accepted (translateCallRows t o) (imageOf (flat (bookOf t))) o
 
 listSets-refused : (t o : List ℕ) → (listSets t o .answer .number ≡ 0 → ⊥) → listSets t o .out ≡ o
 listSets-refused t o = Outcome.written-refused (listSetsRows t o) (length (bookSets t)) (listing t) o
@@ -180,6 +195,32 @@ module _ (b : Book) (ok : WellFormed b) where
   one-to-one : (Γ : List Formula) → AllOver (b .atoms) Γ
       → OneToOne (b .atoms) (flat b .size) (bookFormulas b ++ Γ) (programFormulas (flat b) ++ Γ)
   one-to-one = Demand3.one-to-one b ok
+
+-- Demand 3 of the bytes: p is the image that translation writes, x what extension writes for the reading r.
+
+module _ (t o : List ℕ) (ok : none (translateCallRows t o) ≡ true) where
+  abbrev p : List ℕ
+  p = imageOf (flat (bookOf t))
+
+  abbrev x : (r : List ℕ) → List ℕ
+  x r = map number (extend (bookOf t) (readingOf r))
+
+  translate-checked : checkProgram p ≡ accepted 1
+  translate-checked = answer-none (programRows p) 1 (Bytes.program-accepted t (length o) ok)
+
+  translate-read-back : programOf p ≡ flat (bookOf t)
+  translate-read-back = Bytes.program-read-back t (length o) ok
+
+  bytes-satisfied : (r : List ℕ) → none (readingRows (atomCount t) r) ≡ true → evaluateProgram p (x r) ≡ evaluateTheory t r
+  bytes-satisfied r read = Bytes.bytes-evaluated t (length o) ok r read yes
+
+  bytes-only-one : (r : List ℕ) → none (readingRows (atomCount t) r) ≡ true
+      → (j : List ℕ) → none (readingRows (sizeOf p) j) ≡ true → take (atomCount t) j ≡ r → satisfiesProgram (readingOf j) (programOf p) ≡ true → j ≡ x r
+  bytes-only-one = Bytes.bytes-only-one t (length o) ok
+
+  bytes-one-to-one : (Γ : List Formula) → AllOver (atomCount t) Γ
+      → OneToOne (atomCount t) (sizeOf p) (bookFormulas (bookOf t) ++ Γ) (programFormulas (programOf p) ++ Γ)
+  bytes-one-to-one = Bytes.bytes-one-to-one t (length o) ok
 
 -- P1 to P9: one table, one claim; and the same of their flat programs, labels dropped.
 

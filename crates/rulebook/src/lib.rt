@@ -2,7 +2,7 @@
 use refusal::Answer;
 ghost use mathlib.Core.Path.{_≡_};
 ghost use Rattle.wire.specs.Outcome.{outcome};
-ghost use Rattle.rulebook.specs.Calls.{yes, checkTheory, evaluateTheory, testTheory, listSets, checkProgram, evaluateProgram, testProgram};
+ghost use Rattle.rulebook.specs.Calls.{yes, checkTheory, evaluateTheory, translate, testTheory, listSets, checkProgram, evaluateProgram, testProgram};
 
 // Checks a theory image.
 #[no_mangle]
@@ -28,6 +28,18 @@ pub extern "C" fn rulebook_evaluate_theory(theory: &[u8], reading: &[u8]) -> Ans
     let mut scratch = [0u8; refusal::MOST_NODES];
     let holds = theory::satisfied(theory, reading, &mut scratch);
     refusal::accept(result_of(holds))
+}
+
+// Translates a theory into a flat program image.
+#[no_mangle]
+pub extern "C" fn rulebook_translate(theory: &[u8], out: &mut [u8]) -> Answer
+    ensures { λ r. ⌜ outcome r (now (out .exit)) ≡ translate (now (theory .entry)) (now (out .entry)) ⌝ }
+{
+    let image = theory::check(theory);
+    if image.number != 0 {
+        return image;
+    }
+    translation::translate(theory, out)
 }
 
 // Whether a candidate, a byte 0 or 2 for each atom, is an answer set of a theory.

@@ -10,7 +10,7 @@ use lib.ListN.{length, getD}
 use borrow.Author.Tests.{ltb-true, ltb-false, eqb-true, not-false}
 use Rattle.refusal.specs.Limits.{mostAtoms, mostNodes, mostRoots}
 use Rattle.refusal.specs.Table.{Row, none}
-use Rattle.refusal.proofs.Table.{none-cons}
+use Rattle.refusal.proofs.Table.{none-cons, none-split}
 use Rattle.refusal.proofs.First.{firstSuch-none}
 use Rattle.logic.proofs.Bools.{&&-split}
 use Rattle.wire.specs.Sequence.{upTo}
@@ -33,13 +33,6 @@ pub record Accepted (t : List ℕ) : Type 0 where
   pub header : Header t
   pub nodes-keep : (k : ℕ) → k < nodeCount t → nodeKeeps (atomCount t) (nodeSection t) k ≡ true
   pub roots-below : (i : ℕ) → i < rootCount t → rootIn (rootSection t) i < nodeCount t
-
-none-append : (rs qs : List Row) → none (rs ++ qs) ≡ true → (none rs ≡ true) × (none qs ≡ true)
-none-append [] qs h = (refl, h)
-none-append (r ∷ rs) qs h =
-    let first = none-cons r (rs ++ qs) h in
-    let rest = none-append rs qs (first .1) in
-    (rw (first .0) (rest .0), rest .1)
 
 either : (a b : Bool) → (a || b) ≡ false → (a ≡ false) × (b ≡ false)
 either true b h = absurd (true≢false h)
@@ -72,7 +65,7 @@ header-accepted t h =
 pub accepted : (t : List ℕ) → none (theoryRows t) ≡ true → Accepted t
 unfolding theoryRows
 accepted t h =
-    let parts = none-append (headerRows t) (row6 t ∷ row7 t ∷ []) h in
+    let parts = none-split (headerRows t) (row6 t ∷ row7 t ∷ []) h in
     let from6 = none-cons (row6 t) (row7 t ∷ []) (parts .1) in
     let from7 = none-cons (row7 t) [] (from6 .1) in
     record {

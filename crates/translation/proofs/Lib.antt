@@ -4,3 +4,13 @@ pub mod Rules
 pub mod Extensions
 pub mod Demand3
 pub mod BenchCases
+pub mod Shapes
+pub mod OneRule
+pub mod Turns
+pub mod NodeTerms
+pub mod Bounds
+pub mod Writing
+pub mod Sections
+pub mod Outcome
+pub mod Writable
+pub mod Bytes

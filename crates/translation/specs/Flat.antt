@@ -30,11 +30,16 @@ names [] = []
 names (constant b ∷ ts) = names ts
 names (name a ∷ ts) = a ∷ names ts
 
--- True in a head, false in a body and `not` true remove the rule; every other constant is dropped.
+-- True in a head, false in a body and `not` true remove the rule;
+abbrev pub removes : RuleOf Term → Bool
+removes r = has true (r .heads) || has false (r .positives) || has true (r .negatives)
+
+-- every other constant is dropped.
+abbrev pub reduce : RuleOf Term → Rule
+reduce r = record { heads = names (r .heads); positives = names (r .positives); negatives = names (r .negatives) }
+
 abbrev pub simplify : RuleOf Term → List Rule
-simplify r =
-    cond (has true (r .heads) || has false (r .positives) || has true (r .negatives)) []
-    (record { heads = names (r .heads); positives = names (r .positives); negatives = names (r .negatives) } ∷ [])
+simplify r = cond (removes r) [] (reduce r ∷ [])
 
 -- The rules of a node.
 
@@ -77,10 +82,14 @@ term next n = termOf next (n .kind) (n .left)
 
 -- The whole program.
 
+-- A fact that holds a term.
+abbrev pub fact : Term → RuleOf Term
+fact t = record { heads = t ∷ []; positives = []; negatives = [] }
+
 -- One fact for each root, holding the root's term.
 abbrev pub facts : List Term → (roots : List ℕ) → List Rule
 facts ts [] = []
-facts ts (k ∷ ks) = simplify (record { heads = termAt ts k ∷ []; positives = []; negatives = [] }) ++ facts ts ks
+facts ts (k ∷ ks) = simplify (fact (termAt ts k)) ++ facts ts ks
 
 -- The rules of the nodes in their order, then the roots' facts; the nodes before have the terms ts, and labels go on from `next`.
 abbrev pub rulesFrom : (roots : List ℕ) → List Term → (next : ℕ) → List Node → List Rule

@@ -1,1 +1,477 @@
 //! The translation of a rule book into flat rules.
+use refusal::Answer;
+ghost use mathlib.Core.Path.{_≡_};
+ghost use mathlib.Core.List.{[], map};
+ghost use mathlib.Core.Bool.{true, cond};
+ghost use Prim.Native.Nat.{ℕ, _+_, _*_, _≤_, _<_};
+ghost use lib.ListN.{length, getD, take};
+ghost use Rattle.refusal.specs.Table.{none, answer};
+ghost use Rattle.wire.specs.Wire.{over};
+ghost use Rattle.theory.specs.Image.{nodeIn, kindOf, bookOf};
+ghost use Rattle.theory.specs.Rows.{theoryRows};
+ghost use Rattle.program.specs.Image.{rulesBytes, imageLength, imageOf};
+ghost use Rattle.translation.specs.Flat.{termOf, fact, mapRule, flat};
+ghost use Rattle.translation.specs.Shapes.{shapes, kinds, shapeRule};
+ghost use Rattle.translation.specs.OneRule.{code, decode, filled, added, addedTo, madeOf, madeBytes};
+ghost use Rattle.translation.specs.Turns.{Nodes, Roots, nextTo, termsTo, rulesTo, factsTo, scratchTerm, slotTerms, kindRules, Numbered};
+ghost use Rattle.translation.specs.Outcome.{sizeOf, ruleTotal, translateRows, translated};
+
+// What may stand in a slot: the terms x of left and y of right, the node's label L, and M, the label for the negation of right.
+const X: usize = 0;
+
+const Y: usize = 1;
+
+const L: usize = 2;
+
+const M: usize = 3;
+
+// A row for each rule: heads, positives, negatives, and which term in which slot; an unused slot holds 0.
+const SHAPES: [[usize; 6]; 14] = [
+    [1, 0, 1, L, X, 0],
+    [0, 2, 0, L, X, 0],
+    [1, 1, 0, X, L, 0],
+    [1, 1, 0, Y, L, 0],
+    [1, 2, 0, L, X, Y],
+    [1, 1, 0, L, X, 0],
+    [1, 1, 0, L, Y, 0],
+    [2, 1, 0, X, Y, L],
+    [1, 2, 0, Y, L, X],
+    [1, 0, 1, L, X, 0],
+    [1, 1, 0, L, Y, 0],
+    [3, 0, 0, X, M, L],
+    [1, 0, 1, M, Y, 0],
+    [0, 2, 0, M, Y, 0],
+];
+
+// Of each kind its first row, its number of rows and its number of labels.
+const KINDS: [[usize; 3]; 7] = [
+    [0, 0, 0],
+    [0, 0, 0],
+    [0, 0, 0],
+    [0, 2, 1],
+    [2, 3, 1],
+    [5, 3, 1],
+    [8, 6, 2],
+];
+
+// The terms that are constants; every other term is an atom's number or a label's.
+const FALSE: usize = 65534;
+
+const TRUE: usize = 65535;
+
+// The literals of a rule that is being made: whether the rule stays, how many slots are used, and the slots.
+pub struct Literals {
+    pub kept: bool,
+    pub used: usize,
+    pub slots: [usize; 3],
+}
+
+// A rule with its constants gone: whether it stays, its counts and its slots.
+pub struct Made {
+    pub kept: bool,
+    pub heads: usize,
+    pub positives: usize,
+    pub negatives: usize,
+    pub slots: [usize; 3],
+}
+
+// One literal more.
+fn add(literals: Literals, removing: usize, term: usize) -> Literals
+    requires { ⌜ literals .used < 3 ⌝ }
+    ensures { λ r. ⌜ r ≡ added literals removing term ⌝ }
+{
+    let used = literals.used;
+    let mut slots = literals.slots;
+    if term == removing {
+        return Literals {
+            kept: false,
+            used,
+            slots,
+        };
+    }
+    if term == FALSE {
+        return literals;
+    }
+    if term == TRUE {
+        return literals;
+    }
+    slots[used] = term;
+    Literals {
+        kept: literals.kept,
+        used: used + 1,
+        slots,
+    }
+}
+
+// The terms of `count` slots of a shape more, from the slot at `start` on.
+fn add_slots(
+    literals: Literals,
+    removing: usize,
+    shape: &[usize; 6],
+    terms: &[usize; 4],
+    start: usize,
+    count: usize,
+) -> Literals
+    requires { ⌜ (literals .used + count ≤ 3) × (start + count ≤ 6) × ((j : ℕ) → j < 6 → getD (now shape) j 0 < 4) ⌝ }
+    ensures { λ r. ⌜ r ≡ addedTo literals removing (λ j. getD (now (terms .entry)) (getD (now (shape .entry)) (start + j) 0) 0) count ⌝ }
+{
+    let mut all = literals;
+    let mut j = 0;
+    while j < count {
+        let slot = shape[start + j];
+        all = add(all, removing, terms[slot]);
+        j += 1;
+    }
+    all
+}
+
+// The rule of a shape, where x, y, L and M have these terms.
+fn make(shape: &[usize; 6], terms: &[usize; 4]) -> Made
+    requires { ⌜ (getD (now shape) 0 0 + getD (now shape) 1 0 + getD (now shape) 2 0 ≤ 3) × ((j : ℕ) → j < 6 → getD (now shape) j 0 < 4) ⌝ }
+    ensures { λ r. ⌜ r ≡ madeOf (mapRule (filled (now (terms .entry))) (shapeRule (now (shape .entry)))) ⌝ }
+{
+    let heads = shape[0];
+    let positives = shape[1];
+    let none = Literals {
+        kept: true,
+        used: 0,
+        slots: [0, 0, 0],
+    };
+    let a = add_slots(none, TRUE, shape, terms, 3, heads);
+    let b = add_slots(a, FALSE, shape, terms, 3 + heads, positives);
+    let c = add_slots(b, TRUE, shape, terms, 3 + heads + positives, shape[2]);
+    let slots = c.slots;
+    Made {
+        kept: c.kept,
+        heads: a.used,
+        positives: b.used - a.used,
+        negatives: c.used - b.used,
+        slots,
+    }
+}
+
+// The kind of node k, and its left and right.
+fn kind_at(nodes: &[u8], k: usize) -> usize
+    requires { ⌜ k * 6 + 6 ≤ length (now nodes) ⌝ }
+    ensures { λ r. ⌜ r ≡ getD (now (nodes .entry)) (k * 6) 0 ⌝ }
+{
+    wide(nodes[k * 6])
+}
+
+fn left_at(nodes: &[u8], k: usize) -> usize
+    requires { ⌜ k * 6 + 6 ≤ length (now nodes) ⌝ }
+    ensures { λ r. ⌜ r ≡ nodeIn (now (nodes .entry)) k .left ⌝ }
+{
+    wire::u16_at(nodes, k * 6 + 2)
+}
+
+fn right_at(nodes: &[u8], k: usize) -> usize
+    requires { ⌜ k * 6 + 6 ≤ length (now nodes) ⌝ }
+    ensures { λ r. ⌜ r ≡ nodeIn (now (nodes .entry)) k .right ⌝ }
+{
+    wire::u16_at(nodes, k * 6 + 4)
+}
+
+fn wide(byte: u8) -> usize
+    ensures { λ r. ⌜ (r ≡ byte) × (r < 256) ⌝ }
+{
+    byte as usize
+}
+
+fn wide_term(term: u16) -> usize
+    ensures { λ r. ⌜ (r ≡ term) × (r < 65536) ⌝ }
+{
+    term as usize
+}
+
+// B: the atoms, and the labels of all nodes.
+fn size(nodes: &[u8], count: usize, atoms: usize) -> usize
+    requires { ⌜ Nodes atoms (now nodes) count ⌝ }
+    ensures { λ r. ⌜ r ≡ nextTo atoms (now (nodes .entry)) count ⌝ }
+{
+    let kinds = KINDS;
+    let mut next = atoms;
+    let mut k = 0;
+    while k < count {
+        let kind = kind_at(nodes, k);
+        next += kinds[kind][2];
+        k += 1;
+    }
+    next
+}
+
+// The term of a node: a constant, its atom or its label L.
+fn term_of(kind: usize, left: usize, next: usize) -> usize
+    ensures { λ r. ⌜ r ≡ code (termOf next (kindOf kind) left) ⌝ }
+{
+    match kind {
+        0 => FALSE,
+        1 => TRUE,
+        2 => left,
+        _ => next,
+    }
+}
+
+// Numbers the terms of the nodes, those of labels from A upward.
+fn number(nodes: &[u8], count: usize, atoms: usize, terms: &mut [u16])
+    requires { ⌜ Nodes atoms (now nodes) count × (count ≤ length (now terms)) ⌝ }
+    ensures { λ _. ⌜ take count (now (terms .exit)) ≡ map code (termsTo atoms (now (nodes .entry)) count) ⌝ }
+{
+    let kinds = KINDS;
+    let mut next = atoms;
+    let mut k = 0;
+    while k < count {
+        let kind = kind_at(nodes, k);
+        terms[k] = term_of(kind, left_at(nodes, k), next) as u16;
+        next += kinds[kind][2];
+        k += 1;
+    }
+}
+
+// The terms of x, y, L and M of node k, whose labels start at `next`.
+fn slot_terms(nodes: &[u8], k: usize, terms: &[u16; 1024], next: usize) -> [usize; 4]
+    requires { ⌜ (k * 6 + 6 ≤ length (now nodes)) × (nodeIn (now nodes) k .left < 1024) × (nodeIn (now nodes) k .right < 1024) × (next < 65536) ⌝ }
+    ensures { λ r. ⌜ r ≡ slotTerms (now (terms .entry)) next (nodeIn (now (nodes .entry)) k) ⌝ }
+{
+    let left = left_at(nodes, k);
+    let right = right_at(nodes, k);
+    [
+        wide_term(terms[left]),
+        wide_term(terms[right]),
+        next,
+        next + 1,
+    ]
+}
+
+// How many rules stay of one that was made.
+fn stays(kept: bool) -> usize
+    ensures { λ r. ⌜ (r ≡ cond kept 1 0) × (r ≤ 1) ⌝ }
+{
+    if kept { 1 } else { 0 }
+}
+
+// How many rules a node of a kind has, where x, y, L and M have these terms.
+fn count_node(
+    table: &[[usize; 6]; 14],
+    index: &[[usize; 3]; 7],
+    kind: usize,
+    terms: &[usize; 4],
+) -> usize
+    requires { ⌜ (now table ≡ shapes) × (now index ≡ kinds) × (kind < 7) ⌝ }
+    ensures { λ r. ⌜ r ≡ length (kindRules (now (terms .entry)) kind) ⌝ }
+{
+    let first = index[kind][0];
+    let count = index[kind][1];
+    let mut rules = 0;
+    let mut j = 0;
+    while j < count {
+        let made = make(&table[first + j], terms);
+        rules += stays(made.kept);
+        j += 1;
+    }
+    rules
+}
+
+// The fact that holds a term, if it stays.
+fn fact_of(term: usize) -> Made
+    ensures { λ r. ⌜ r ≡ madeOf (fact (decode term)) ⌝ }
+{
+    let none = Literals {
+        kept: true,
+        used: 0,
+        slots: [0, 0, 0],
+    };
+    let head = add(none, TRUE, term);
+    let slots = head.slots;
+    Made {
+        kept: head.kept,
+        heads: head.used,
+        positives: 0,
+        negatives: 0,
+        slots,
+    }
+}
+
+// How many rules all nodes have.
+fn count_rules(nodes: &[u8], count: usize, atoms: usize, terms: &[u16; 1024]) -> usize
+    requires { ⌜ Nodes atoms (now nodes) count × (take count (now terms) ≡ map code (termsTo atoms (now nodes) count)) ⌝ }
+    ensures { λ r. ⌜ r ≡ length (rulesTo atoms (now (nodes .entry)) count) ⌝ }
+{
+    let table = SHAPES;
+    let index = KINDS;
+    let mut next = atoms;
+    let mut rules = 0;
+    let mut k = 0;
+    while k < count {
+        let kind = kind_at(nodes, k);
+        let filling = slot_terms(nodes, k, terms, next);
+        rules += count_node(&table, &index, kind, &filling);
+        next += index[kind][2];
+        k += 1;
+    }
+    rules
+}
+
+// How many facts the roots have.
+fn count_facts(roots: &[u8], count: usize, terms: &[u16; 1024]) -> usize
+    requires { ⌜ Roots 1024 (now roots) count ⌝ }
+    ensures { λ r. ⌜ r ≡ length (factsTo (scratchTerm (now (terms .entry))) (now (roots .entry)) count) ⌝ }
+{
+    let mut facts = 0;
+    let mut i = 0;
+    while i < count {
+        let root = wire::u16_at(roots, i * 2);
+        let made = fact_of(wide_term(terms[root]));
+        facts += stays(made.kept);
+        i += 1;
+    }
+    facts
+}
+
+// Writes what stays of a rule over the start of `out`, and gives how many bytes that is.
+fn put_rule(out: &mut [u8], made: Made) -> usize
+    requires { ⌜ (made .heads < 256) × (made .positives < 256) × (made .negatives < 256) × (length (madeBytes made) ≤ length (now out)) ⌝ }
+    ensures { λ r. ⌜ r ≡ length (madeBytes made) ⌝ }
+    ensures { λ _. ⌜ now (out .exit) ≡ over (madeBytes made) (now (out .entry)) ⌝ }
+{
+    if !made.kept {
+        return 0;
+    }
+    let slots = made.slots;
+    let bytes = program::rule_bytes(made.heads, made.positives, made.negatives, slots);
+    wire::put(out, &bytes)
+}
+
+// Writes the rules of a node of a kind over the start of `out`, and gives how many bytes they are.
+fn write_node(
+    out: &mut [u8],
+    table: &[[usize; 6]; 14],
+    index: &[[usize; 3]; 7],
+    kind: usize,
+    terms: &[usize; 4],
+) -> usize
+    requires { ⌜ (now table ≡ shapes) × (now index ≡ kinds) × (kind < 7) × (length (rulesBytes (kindRules (now terms) kind)) ≤ length (now out)) ⌝ }
+    ensures { λ r. ⌜ r ≡ length (rulesBytes (kindRules (now (terms .entry)) kind)) ⌝ }
+    ensures { λ _. ⌜ now (out .exit) ≡ over (rulesBytes (kindRules (now (terms .entry)) kind)) (now (out .entry)) ⌝ }
+{
+    let first = index[kind][0];
+    let count = index[kind][1];
+    let mut at = 0;
+    let mut j = 0;
+    while j < count {
+        let made = make(&table[first + j], terms);
+        at += put_rule(&mut out[at..], made);
+        j += 1;
+    }
+    at
+}
+
+// Writes the rules of all nodes over the start of `out`, each node's into the unwritten rest.
+fn write_nodes(
+    out: &mut [u8],
+    nodes: &[u8],
+    count: usize,
+    atoms: usize,
+    terms: &[u16; 1024],
+) -> usize
+    requires { ⌜ Nodes atoms (now nodes) count × (take count (now terms) ≡ map code (termsTo atoms (now nodes) count)) ⌝ }
+    requires { ⌜ length (rulesBytes (rulesTo atoms (now nodes) count)) ≤ length (now out) ⌝ }
+    ensures { λ r. ⌜ r ≡ length (rulesBytes (rulesTo atoms (now (nodes .entry)) count)) ⌝ }
+    ensures { λ _. ⌜ now (out .exit) ≡ over (rulesBytes (rulesTo atoms (now (nodes .entry)) count)) (now (out .entry)) ⌝ }
+{
+    let table = SHAPES;
+    let index = KINDS;
+    let mut next = atoms;
+    let mut at = 0;
+    let mut k = 0;
+    while k < count {
+        let kind = kind_at(nodes, k);
+        let filling = slot_terms(nodes, k, terms, next);
+        at += write_node(&mut out[at..], &table, &index, kind, &filling);
+        next += index[kind][2];
+        k += 1;
+    }
+    at
+}
+
+// Writes a fact for each root over the start of `out`.
+fn write_facts(out: &mut [u8], roots: &[u8], count: usize, terms: &[u16; 1024]) -> usize
+    requires { ⌜ Roots 1024 (now roots) count ⌝ }
+    requires { ⌜ length (rulesBytes (factsTo (scratchTerm (now terms)) (now roots) count)) ≤ length (now out) ⌝ }
+    ensures { λ r. ⌜ r ≡ length (rulesBytes (factsTo (scratchTerm (now (terms .entry))) (now (roots .entry)) count)) ⌝ }
+    ensures { λ _. ⌜ now (out .exit) ≡ over (rulesBytes (factsTo (scratchTerm (now (terms .entry))) (now (roots .entry)) count)) (now (out .entry)) ⌝ }
+{
+    let mut at = 0;
+    let mut i = 0;
+    while i < count {
+        let root = wire::u16_at(roots, i * 2);
+        let made = fact_of(wide_term(terms[root]));
+        at += put_rule(&mut out[at..], made);
+        i += 1;
+    }
+    at
+}
+
+// K: the rules of the nodes and the facts of the roots.
+fn count(theory: &[u8], terms: &[u16; 1024]) -> usize
+    requires { ⌜ (none (theoryRows (now theory)) ≡ true) × Numbered (now theory) (now terms) ⌝ }
+    ensures { λ r. ⌜ (r ≡ ruleTotal (now (theory .entry))) × (r ≤ 6400) ⌝ }
+{
+    let nodes = theory::nodes(theory);
+    let start = 16 + nodes * 6;
+    let rules = count_rules(&theory[16..], nodes, theory::atoms(theory), terms);
+    rules + count_facts(&theory[start..], theory::roots(theory), terms)
+}
+
+// Writes all rules over the start of `out`: those of the nodes, then a fact for each root.
+fn write_rules(theory: &[u8], out: &mut [u8], terms: &[u16; 1024]) -> usize
+    requires { ⌜ (none (theoryRows (now theory)) ≡ true) × Numbered (now theory) (now terms) ⌝ }
+    requires { ⌜ length (rulesBytes (flat (bookOf (now theory)) .rules)) ≤ length (now out) ⌝ }
+    ensures { λ r. ⌜ r ≡ length (rulesBytes (flat (bookOf (now (theory .entry))) .rules)) ⌝ }
+    ensures { λ _. ⌜ now (out .exit) ≡ over (rulesBytes (flat (bookOf (now (theory .entry))) .rules)) (now (out .entry)) ⌝ }
+{
+    let nodes = theory::nodes(theory);
+    let start = 16 + nodes * 6;
+    let at = write_nodes(out, &theory[16..], nodes, theory::atoms(theory), terms);
+    at
+        + write_facts(
+            &mut out[at..],
+            &theory[start..],
+            theory::roots(theory),
+            terms,
+        )
+}
+
+// Writes the program's image over the start of `out`: the rules, and the header last.
+fn write(theory: &[u8], out: &mut [u8], terms: &[u16; 1024], size: usize, rules: usize)
+    requires { ⌜ (none (theoryRows (now theory)) ≡ true) × Numbered (now theory) (now terms) ⌝ }
+    requires { ⌜ (size ≡ sizeOf (now theory)) × (rules ≡ ruleTotal (now theory)) × (rules ≤ 6400) × (imageLength rules ≤ length (now out)) ⌝ }
+    ensures { λ _. ⌜ now (out .exit) ≡ over (imageOf (flat (bookOf (now (theory .entry))))) (now (out .entry)) ⌝ }
+{
+    write_rules(theory, &mut out[16..], terms);
+    let header = program::header_bytes(theory::atoms(theory), size, rules);
+    wire::put(out, &header);
+}
+
+// The translation of a checked theory image into a program image: rows 14 and 8 first, and K rules where neither applies.
+pub fn translate(theory: &[u8], out: &mut [u8]) -> Answer
+    requires { ⌜ none (theoryRows (now theory)) ≡ true ⌝ }
+    ensures { λ r. ⌜ r ≡ answer (translateRows (now (theory .entry)) (length (now (out .entry)))) (ruleTotal (now (theory .entry))) ⌝ }
+    ensures { λ _. ⌜ now (out .exit) ≡ translated (now (theory .entry)) (now (out .entry)) ⌝ }
+{
+    let atoms = theory::atoms(theory);
+    let nodes = theory::nodes(theory);
+    let all = size(&theory[16..], nodes, atoms);
+    if refusal::MOST_B < all {
+        return refusal::refuse(14, all);
+    }
+    let mut terms = [0u16; 1024];
+    number(&theory[16..], nodes, atoms, &mut terms);
+    let rules = count(theory, &terms);
+    let needed = 16 + rules * 10;
+    if out.len() < needed {
+        return refusal::refuse(8, needed);
+    }
+    write(theory, out, &terms, all, rules);
+    refusal::accept(rules)
+}

@@ -1,0 +1,180 @@
+-- A node's operands stand before it, so the terms that the code has numbered by then give its rules. By the rows of the kinds and induction on the nodes. Assumes nothing.
+use mathlib.Core.Path.{_≡_, refl, sym, ap, ap₂, _∙_, fun-ext}
+use mathlib.Core.Logic.{_⊎_, inl, inr, ⊎-elim}
+use mathlib.Core.Bool.{Bool, true, false, _&&_}
+use mathlib.Core.List.{List, [], _∷_, _++_, map}
+use Prim.Native.Nat.{ℕ, zero, suc, _+_, _*_, _≤_, _<_}
+use native.Mathlib.Decide.{le-ind}
+use native.Mathlib.Numerals.{add-one}
+use native.Mathlib.Omega.{arith}
+use lib.Dec.{eqb, ltb}
+use lib.ListN.{getD, length, take, length-append, length-map, List·getD-append, List·getD-map}
+use lib.Seq.{getD-take}
+use borrow.Author.Tests.{ltb-true}
+use Rattle.logic.proofs.Bools.{&&-split}
+use Rattle.theory.specs.Book.{Kind, falseKind, trueKind, atomKind, notKind, andKind, orKind, impliesKind, Node, leftLimit, rightLimit, fits}
+use Rattle.theory.specs.Image.{kindOf, nodeIn, nodeKeeps}
+use Rattle.translation.specs.Table.{Slot, x, y, L, M, rows, labelCount}
+use Rattle.translation.specs.Flat.{Term, constant, name, fill, instances, termAt, nodeRules, termOf, term}
+use Rattle.translation.specs.Shapes.{labelsOf}
+use Rattle.translation.specs.OneRule.{code, decode, filled}
+use Rattle.translation.specs.Turns.{Nodes, nextTo, termsTo, slotTerms, kindRules}
+use Rattle.translation.proofs.Shapes.{labels-count, labels-few}
+use Rattle.translation.proofs.OneRule.{Below, decode-code}
+use Rattle.translation.proofs.Turns.{nextTo-none, nextTo-more, termsTo-none, termsTo-more, length-termsTo}
+
+-- ---- by kind
+
+limits-small : (A k : ℕ) (kind : Kind) → A ≤ 1024 → k < 1024 → (leftLimit A k kind ≤ 1024) × (rightLimit k kind ≤ 1024)
+limits-small A k falseKind h l = omega arith
+limits-small A k trueKind h l = omega arith
+limits-small A k atomKind h l = omega arith
+limits-small A k notKind h l = omega arith
+limits-small A k andKind h l = omega arith
+limits-small A k orKind h l = omega arith
+limits-small A k impliesKind h l = omega arith
+
+-- A kind takes at most two labels.
+labelCount-le : (kind : Kind) → labelCount kind ≤ 2
+labelCount-le falseKind = omega arith
+labelCount-le trueKind = omega arith
+labelCount-le atomKind = omega arith
+labelCount-le notKind = omega arith
+labelCount-le andKind = omega arith
+labelCount-le orKind = omega arith
+labelCount-le impliesKind = omega arith
+
+-- A kind has no rules, or its operands are earlier nodes.
+operands : (A k : ℕ) (kind : Kind) (left right : ℕ) → left < leftLimit A k kind → right < rightLimit k kind → (rows kind ≡ []) ⊎ ((left < k) × (right < k))
+operands A k falseKind left right h l = inl refl
+operands A k trueKind left right h l = inl refl
+operands A k atomKind left right h l = inl refl
+operands A k notKind left right h l = inr (h, omega arith)
+operands A k andKind left right h l = inr (h, l)
+operands A k orKind left right h l = inr (h, l)
+operands A k impliesKind left right h l = inr (h, l)
+
+-- The term of a node is below the next label.
+term-below : (A k next : ℕ) (kind : Kind) (left : ℕ) → left < leftLimit A k kind → A ≤ next → Below (next + labelCount kind) (termOf next kind left)
+term-below A k next falseKind left h l = tt
+term-below A k next trueKind left h l = tt
+term-below A k next atomKind left h l = omega arith
+term-below A k next notKind left h l = omega arith
+term-below A k next andKind left h l = omega arith
+term-below A k next orKind left h l = omega arith
+term-below A k next impliesKind left h l = omega arith
+
+below-le : (B C : ℕ) → B ≤ C → (t : Term) → Below B t → Below C t
+below-le B C h (constant b) l = tt
+below-le B C h (name a) l = omega arith
+
+code-below : (B : ℕ) (t : Term) → B ≤ 65536 → Below B t → code t < 65536
+code-below B (constant false) h l = omega arith
+code-below B (constant true) h l = omega arith
+code-below B (name a) h l = omega arith
+
+below-more : (B : ℕ) (ts : List Term) (t : Term) → ((j : ℕ) → Below B (termAt ts j)) → Below B t → (j : ℕ) → Below B (termAt (ts ++ (t ∷ [])) j)
+below-more B [] t h l zero = l
+below-more B [] t h l (suc j) = tt
+below-more B (u ∷ ts) t h l zero = h 0
+below-more B (u ∷ ts) t h l (suc j) = below-more B ts t (λ i. h (suc i)) l j
+
+-- ---- of an accepted image
+
+module _ (A : ℕ) (s : List ℕ) (N : ℕ) (ok : Nodes A s N) where
+  kind-known : (k : ℕ) → k < N → getD s (k * 6) 0 < 7
+  kind-known k h = ltb-true _ _ (&&-split (ltb (getD s (k * 6) 0) 7) _ (ok .keep k h) .0)
+
+  node-fits : (k : ℕ) → k < N → (nodeIn s k .left < leftLimit A k (nodeIn s k .kind)) × (nodeIn s k .right < rightLimit k (nodeIn s k .kind))
+  node-fits k h =
+      let rest = &&-split (ltb (getD s (k * 6) 0) 7) _ (ok .keep k h) .1 in
+      let fit = &&-split (ltb (nodeIn s k .left) _) _ (&&-split (eqb (getD s (k * 6 + 1) 0) 0) _ rest .1) in
+      (ltb-true _ _ (fit .0), ltb-true _ _ (fit .1))
+
+  -- Operands are below the scratch's length.
+  pub operands-small : (k : ℕ) → k < N → (nodeIn s k .left < 1024) × (nodeIn s k .right < 1024)
+  operands-small k h =
+      let small = limits-small A k (nodeIn s k .kind) (ok .few-atoms) (omega (arith, ok .few)) in
+      (omega (arith, node-fits k h), omega (arith, node-fits k h))
+
+  -- Labels only go up, two a node at most.
+  pub next-le : (k : ℕ) → (A ≤ nextTo A s k) × (nextTo A s k ≤ A + k * 2)
+  next-le zero = rw nextTo-none (omega arith)
+  next-le (suc k) = rw (← add-one, nextTo-more) (omega (arith, labelCount-le (nodeIn s k .kind), next-le k))
+
+  -- What a turn knows of its node by the kind's byte: the kind has a row, which counts its labels, and there is room for them.
+  pub node-known : (k : ℕ) → k < N → (kind : ℕ) → kind ≡ getD s (k * 6) 0
+      → (kind < 7) × (labelsOf kind ≡ labelCount (nodeIn s k .kind)) × (labelsOf kind ≤ 2) × (nextTo A s k ≤ 3072)
+  node-known k h kind e =
+      let row : getD s (k * 6) 0 < 7 = kind-known k h in
+      rw e (row, labels-count _ row, labels-few _ row, omega (arith, next-le k, ok .few, ok .few-atoms))
+
+  -- A node's term has a number of two bytes.
+  pub code-small : (k : ℕ) → k < N → code (term (nextTo A s k) (nodeIn s k)) < 65536
+  code-small k h = code-below (nextTo A s k + labelCount (nodeIn s k .kind)) (term (nextTo A s k) (nodeIn s k))
+      (omega (arith, next-le k, labelCount-le (nodeIn s k .kind), ok .few, ok .few-atoms))
+      (term-below A k (nextTo A s k) (nodeIn s k .kind) (nodeIn s k .left) (node-fits k h .0) (next-le k .0))
+
+  -- Names are below the next label.
+  pub terms-below : (k : ℕ) → k ≤ N → (j : ℕ) → Below (nextTo A s k) (termAt (termsTo A s k) j)
+  terms-below zero h j = rw termsTo-none tt
+  terms-below (suc k) h j =
+      rw (← add-one, termsTo-more, nextTo-more)
+      (below-more _ (termsTo A s k) _ (λ i. below-le (nextTo A s k) (nextTo A s k + labelCount (nodeIn s k .kind)) (omega arith) (termAt (termsTo A s k) i) (terms-below k (omega arith) i))
+      (term-below A k (nextTo A s k) (nodeIn s k .kind) (nodeIn s k .left) (node-fits k h .0) (next-le k .0)) j)
+
+  -- Later nodes leave the terms of earlier ones.
+  pub terms-keep : (k n : ℕ) → k ≤ n → (j : ℕ) → j < k → termAt (termsTo A s n) j ≡ termAt (termsTo A s k) j
+  terms-keep k n h j l =
+      le-ind (λ m. termAt (termsTo A s m) j ≡ termAt (termsTo A s k) j) refl
+      (λ m g e. rw (← add-one, termsTo-more) (List·getD-append (termsTo A s m) _ (constant false) j (omega (arith, length-termsTo A s m)) ∙ e)) n h
+
+-- Within a list the default does not matter.
+getD-within : {S : Type 0} (l : List S) (i : ℕ) (d e : S) → i < length l → getD l i d ≡ getD l i e
+getD-within [] i d e h = absurd (omega arith)
+getD-within (s ∷ l) zero d e h = refl
+getD-within (s ∷ l) (suc i) d e h = getD-within l i d e (omega arith)
+
+-- The numbers of the first N terms stand in the scratch.
+module _ (A : ℕ) (s : List ℕ) (N : ℕ) (ok : Nodes A s N) (scratch : List ℕ) (numbered : take N scratch ≡ map code (termsTo A s N)) where
+  pub scratch-at : (j : ℕ) → j < N → getD scratch j 0 ≡ code (termAt (termsTo A s N) j)
+  scratch-at j h =
+      sym (getD-take N scratch j 0 h) ∙ ap (λ l. getD l j 0) numbered
+      ∙ getD-within (map code (termsTo A s N)) j 0 (code (constant false)) (rw (length-map, length-termsTo) h)
+      ∙ List·getD-map code (termsTo A s N) j (constant false)
+
+  pub scratch-term : (j : ℕ) → j < N → decode (getD scratch j 0) ≡ termAt (termsTo A s N) j
+  scratch-term j h =
+      rw (scratch-at j h)
+      (decode-code (termAt (termsTo A s N) j) (below-le (nextTo A s N) 65534 (omega (arith, next-le A s N ok N, ok .few, ok .few-atoms)) (termAt (termsTo A s N) j) (terms-below A s N ok N (omega arith) j)))
+
+-- The terms that fill a node's slots.
+filled-fill : (a b next : ℕ) (left right : Term) → decode a ≡ left → decode b ≡ right → next < 65533
+    → filled (a ∷ b ∷ next ∷ (next + 1) ∷ []) ≡ fill left right next
+filled-fill a b next left right e f h = fun-ext each
+  where
+    each : (i : Slot) → filled (a ∷ b ∷ next ∷ (next + 1) ∷ []) i ≡ fill left right next i
+    each x = e
+    each y = f
+    each L = decode-code (name next) (omega arith)
+    each M = rw add-one (decode-code (name (suc next)) (omega arith))
+
+module _ (A : ℕ) (s : List ℕ) (N : ℕ) (ok : Nodes A s N) (scratch : List ℕ) (numbered : take N scratch ≡ map code (termsTo A s N)) where
+  -- The rules of node k, from the numbers in the scratch.
+  pub node-rules : (k : ℕ) → k < N
+      → let n = nodeIn s k in let next = nextTo A s k in
+      instances (filled (slotTerms scratch next n)) (rows (n .kind)) ≡ nodeRules (termsTo A s k) next n
+  node-rules k h =
+      let n = nodeIn s k in
+      let next = nextTo A s k in
+      let at : (j : ℕ) → j < k → decode (getD scratch j 0) ≡ termAt (termsTo A s k) j
+      = λ j l. scratch-term A s N ok scratch numbered j (omega arith) ∙ terms-keep A s N ok k N (omega arith) j l in
+      ⊎-elim (λ e. rw e)
+      (λ l. ap (λ f. instances f (rows (n .kind)))
+      (filled-fill _ _ next _ _ (at (n .left) (l .0)) (at (n .right) (l .1)) (omega (arith, next-le A s N ok k, ok .few, ok .few-atoms))))
+      (operands A k (n .kind) (n .left) (n .right) (node-fits A s N ok k h .0) (node-fits A s N ok k h .1))
+
+  -- The same as a turn has them: from the kind's byte, the next label and the numbers that fill the slots.
+  pub turn-rules : (k : ℕ) → k < N → (kind next : ℕ) (terms : List ℕ) → kind ≡ getD s (k * 6) 0 → next ≡ nextTo A s k → terms ≡ slotTerms scratch next (nodeIn s k)
+      → kindRules terms kind ≡ nodeRules (termsTo A s k) (nextTo A s k) (nodeIn s k)
+  turn-rules k h kind next terms e f g = rw (g, f, e) (node-rules k h)

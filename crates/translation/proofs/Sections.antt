@@ -1,0 +1,72 @@
+-- The sections of an image that the check accepts keep what the loops over them ask. From what each row leaves. Assumes nothing.
+use mathlib.Core.Path.{_≡_, ap, sym, _∙_}
+use mathlib.Core.Bool.{true}
+use mathlib.Core.List.{List, _++_, map, append-assoc}
+use Prim.Native.Nat.{ℕ, _+_, _*_, _≤_, _<_}
+use native.Mathlib.Omega.{arith}
+use lib.ListN.{length, take, drop, length-drop, length-append}
+use lib.Seq.{drop-append-seam, drop-append-add, drop-drop, length-take-le}
+use Rattle.refusal.specs.Table.{none}
+use Rattle.wire.specs.Wire.{over}
+use Rattle.theory.specs.Image.{atomCount, nodeCount, rootCount, nodeSection, rootSection, rootIn, bookOf}
+use Rattle.theory.specs.Rows.{theoryRows}
+use Rattle.program.specs.Image.{rulesBytes}
+use Rattle.program.proofs.Lengths.{rulesBytes-append}
+use Rattle.theory.proofs.Accepted.{Accepted, accepted}
+use Rattle.translation.specs.Flat.{flat}
+use Rattle.translation.specs.OneRule.{code}
+use Rattle.translation.specs.Outcome.{ruleTotal}
+use Rattle.translation.specs.Turns.{Nodes, Roots, termsTo, rulesTo, factsTo, scratchTerm, Numbered}
+use Rattle.translation.proofs.Turns.{flat-rules}
+use Rattle.translation.proofs.NodeTerms.{scratch-term}
+use Rattle.translation.proofs.Bounds.{length-rulesTo, length-factsTo}
+
+module _ (t : List ℕ) (ok : none (theoryRows t) ≡ true) where
+  pub nodes-accepted : Nodes (atomCount t) (nodeSection t) (nodeCount t)
+  nodes-accepted =
+      let a = accepted t ok in
+      record { few-atoms = a .header .few-atoms; few = a .header .few-nodes; long = rw length-drop (omega (arith, a .header .whole)); keep = a .nodes-keep }
+
+  pub roots-accepted : Roots (nodeCount t) (rootSection t) (rootCount t)
+  roots-accepted =
+      let a = accepted t ok in
+      record { few = a .header .few-roots; long = rw length-drop (omega (arith, a .header .whole)); below = a .roots-below }
+
+  -- A root's term stands in the scratch.
+  pub roots-within : Roots 1024 (rootSection t) (rootCount t)
+  roots-within =
+      let r = roots-accepted in
+      record { few = r .few; long = r .long; below = λ i h. omega (arith, r .below i h, nodes-accepted .few) }
+
+  -- The rules of the program are those of the nodes and the facts of the roots, by the terms in the scratch.
+  pub accepted-rules : (scratch : List ℕ) → Numbered t scratch
+      → flat (bookOf t) .rules ≡ rulesTo (atomCount t) (nodeSection t) (nodeCount t) ++ factsTo (scratchTerm scratch) (rootSection t) (rootCount t)
+  accepted-rules scratch numbered =
+      flat-rules t (scratchTerm scratch)
+      (λ i h. scratch-term (atomCount t) (nodeSection t) (nodeCount t) nodes-accepted scratch numbered (rootIn (rootSection t) i) (roots-accepted .below i h))
+
+  -- K is at most 6N + R, and so within its limit.
+  pub ruleTotal-parts : (scratch : List ℕ) → Numbered t scratch
+      → ruleTotal t ≡ length (rulesTo (atomCount t) (nodeSection t) (nodeCount t)) + length (factsTo (scratchTerm scratch) (rootSection t) (rootCount t))
+  ruleTotal-parts scratch numbered = rw (accepted-rules scratch numbered, length-append)
+
+  pub ruleTotal-le : (scratch : List ℕ) → Numbered t scratch → ruleTotal t ≤ 6400
+  ruleTotal-le scratch numbered =
+      omega (
+        arith,
+        ruleTotal-parts scratch numbered,
+        length-rulesTo (atomCount t) (nodeSection t) (nodeCount t),
+        length-factsTo (scratchTerm scratch) (rootSection t) (rootCount t),
+        nodes-accepted .few,
+        roots-accepted .few,
+      )
+
+  -- Their bytes, one part behind the other.
+  pub accepted-bytes : (scratch : List ℕ) → Numbered t scratch
+      → rulesBytes (flat (bookOf t) .rules)
+      ≡ rulesBytes (rulesTo (atomCount t) (nodeSection t) (nodeCount t)) ++ rulesBytes (factsTo (scratchTerm scratch) (rootSection t) (rootCount t))
+  accepted-bytes scratch numbered = ap rulesBytes (accepted-rules scratch numbered) ∙ rulesBytes-append _ _
+
+  pub accepted-fit : (scratch : List ℕ) → Numbered t scratch → (room : ℕ) → length (rulesBytes (flat (bookOf t) .rules)) ≤ room
+      → length (rulesBytes (rulesTo (atomCount t) (nodeSection t) (nodeCount t))) + length (rulesBytes (factsTo (scratchTerm scratch) (rootSection t) (rootCount t))) ≤ room
+  accepted-fit scratch numbered room h = rw length-append at (rw (accepted-bytes scratch numbered) at h)

@@ -1,0 +1,37 @@
+-- What a writer of rules needs of a list of rules that grows by a part at each turn: the bytes grow by the part's, and there is room for them. Assumes nothing.
+use mathlib.Core.Path.{_≡_, refl, sym, ap, _∙_}
+use mathlib.Core.List.{List, _++_, append-assoc}
+use Prim.Native.Nat.{ℕ, _+_, _≤_, _<_}
+use native.Mathlib.Omega.{arith}
+use lib.ListN.{length, take, length-append, take-append-drop}
+use lib.Seq.{length-take-le, drop-at}
+use Rattle.wire.specs.Wire.{over}
+use Rattle.wire.proofs.Laws.{Written, length-over}
+use Rattle.program.specs.Rule.{Rule}
+use Rattle.program.specs.Image.{rulesBytes}
+use Rattle.program.proofs.Lengths.{rulesBytes-append}
+use Rattle.translation.proofs.Turns.{grown}
+
+-- Where a writer stands that wrote over the start.
+pub written-first : (new old out : List ℕ) (at : ℕ) → length new ≤ length old → at ≡ length new → out ≡ over new old → Written new old out at
+written-first new old out at h e b = record { bytes = b; end = e; long = rw b (length-over new old h) }
+
+-- Where a writer stands that left the first n bytes for later,
+pub written-past : (n : ℕ) (old : List ℕ) → n ≤ length old → Written (take n old) old old n
+written-past n old h =
+    let e : length (take n old) ≡ n = length-take-le n old h in
+    record { bytes = rw e (sym (take-append-drop n old)); end = sym e; long = refl }
+
+-- and then writes them.
+pub over-last : (head body old out : List ℕ) → length head ≤ length old → out ≡ over (take (length head) old ++ body) old → over head out ≡ over (head ++ body) old
+over-last head body old out h e =
+    let n = length head in
+    let l : length (take n old) ≡ n = length-take-le n old h in
+    rw (e, append-assoc, drop-at (take n old) _ n l, append-assoc, length-append, l, length-append)
+
+module _ (whole part : ℕ → List Rule) (more : (k : ℕ) → whole (k + 1) ≡ whole k ++ part k) where
+  pub bytes-more : (k : ℕ) → rulesBytes (whole (k + 1)) ≡ rulesBytes (whole k) ++ rulesBytes (part k)
+  bytes-more k = ap rulesBytes (more k) ∙ rulesBytes-append (whole k) (part k)
+
+  pub bytes-fit : (k n room : ℕ) → k < n → length (rulesBytes (whole n)) ≤ room → length (rulesBytes (whole k)) + length (rulesBytes (part k)) ≤ room
+  bytes-fit k n room h fits = omega (arith, grown (λ i. rulesBytes (whole i)) (λ i. rulesBytes (part i)) bytes-more k n h)

@@ -1,0 +1,78 @@
+-- `size` gives B: before each turn `next` is the label behind those of the nodes passed. Assumes nothing.
+use mathlib.Core.Path.{_≡_, refl, sym, ap, _∙_}
+use mathlib.Core.List.{List, [], _∷_, _++_, map, map-append}
+use Prim.Native.Nat.{ℕ, zero, suc, _+_, _-_, _*_, _≤_, _<_}
+use native.Mathlib.Numerals.{add-one}
+use native.Mathlib.Omega.{arith}
+use lib.ListN.{length, getD, take, drop}
+use denote.Ref.{now}
+use borrow.Author.Needs.{needs}
+use Rattle.theory.specs.Image.{kindOf, nodeIn}
+use Rattle.translation.specs.Table.{labelCount}
+use Rattle.translation.specs.Shapes.{labelsOf}
+use Rattle.translation.specs.Turns.{nextTo}
+use Rattle.translation.proofs.Turns.{nextTo-none, nextTo-more}
+use Rattle.translation.proofs.NodeTerms.{node-known}
+use Rattle.translation.proofs.size.Statement.{statement}
+use Rattle.translation.proofs.size.Tie as tie
+
+abbrev Inv-loop : tie.InvT-loop
+Inv-loop nodes count atoms kinds next₀ k₀ next k = (next ≡ nextTo atoms nodes k) × (k ≤ count)
+
+abbrev μ-loop : tie.MeasureT-loop
+μ-loop nodes count atoms kinds next₀ k₀ next k = count - k
+
+loop-holds : tie.Need-loop-holds Inv-loop μ-loop
+loop-holds c = (sym (nextTo-none _ _), search needs)
+
+kind-at-requires : tie.Need-kind-at-requires Inv-loop μ-loop
+kind-at-requires c κs = search needs
+
+-- what the turn knows of its node
+known : (c : tie.After-kind-at Inv-loop μ-loop) → let loop = c .before .before in let start = loop .before .before in let s = now (start .args .nodes) in
+    (c .kind-at .result < 7) × (labelsOf (c .kind-at .result) ≡ labelCount (nodeIn s (loop .loop .k) .kind)) × (labelsOf (c .kind-at .result) ≤ 2)
+    × (nextTo (start .args .atoms) s (loop .loop .k) ≤ 3072)
+known c = let loop = c .before .before in let start = loop .before .before in node-known (start .args .atoms) (now (start .args .nodes)) (start .args .count) (start .pre) (loop .loop .k) (omega arith) _ (c .kind-at .ensures)
+
+mul-next : tie.Need-mul-next Inv-loop μ-loop
+mul-next c = omega (arith, known c)
+
+index-1-next : tie.Need-index-1-next Inv-loop μ-loop
+index-1-next c = known c .0
+
+index-2-next : tie.Need-index-2-next Inv-loop μ-loop
+index-2-next c = search needs
+
+add-next : tie.Need-add-next Inv-loop μ-loop
+add-next c = omega (arith, known (c .before))
+
+add-k : tie.Need-add-k Inv-loop μ-loop
+add-k c = search needs
+
+loop-less : tie.Need-loop-less Inv-loop μ-loop
+loop-less c = search needs
+
+loop-again : tie.Need-loop-again Inv-loop μ-loop
+loop-again c =
+    let loop = c .before .before .before in
+    (rw (nextTo-more, ← known (c .before) .1, ← loop .loop .inv .0), search needs)
+
+returns : tie.Need-returns Inv-loop μ-loop
+returns c = let e : c .before .loop .k ≡ c .before .before .before .args .count = omega arith in rw e at (c .before .loop .inv .0)
+
+pub size-spec : {M : Type 1} → statement M
+size-spec =
+    tie.close
+    (tie.spec
+    Inv-loop
+    μ-loop
+    loop-holds
+    kind-at-requires
+    mul-next
+    index-1-next
+    index-2-next
+    add-next
+    add-k
+    loop-less
+    loop-again
+    returns)

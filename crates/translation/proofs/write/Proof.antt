@@ -1,0 +1,84 @@
+-- `write` writes the image: the rules behind the first 16 bytes, and then the header over these. Assumes nothing.
+use mathlib.Core.Path.{_≡_, refl, sym, ap, _∙_}
+use mathlib.Core.List.{List, [], _∷_, _++_, map, map-append}
+use Prim.Native.Nat.{ℕ, zero, suc, _+_, _-_, _*_, _≤_, _<_}
+use native.Mathlib.Numerals.{add-one}
+use native.Mathlib.Omega.{arith}
+use lib.ListN.{length, getD, take, drop, length-append}
+use denote.Ref.{now}
+use borrow.Rule.Slice.PartMut.{putMid}
+use lib.Seq.{length-take-le}
+use Rattle.wire.specs.Wire.{over}
+use Rattle.wire.proofs.Laws.{Written, turn-room, turn}
+use Rattle.theory.specs.Image.{atomCount, bookOf}
+use Rattle.theory.proofs.Accepted.{accepted}
+use Rattle.program.specs.Image.{header, rulesBytes, imageOf}
+use Rattle.program.proofs.Lengths.{length-rulesBytes, length-header}
+use Rattle.translation.specs.Flat.{flat}
+use Rattle.translation.specs.Outcome.{sizeOf, ruleTotal}
+use Rattle.translation.proofs.Writing.{written-past, over-last}
+use borrow.Author.Needs.{needs}
+use Rattle.translation.proofs.write.Statement.{statement}
+use Rattle.translation.proofs.write.Tie as tie
+
+sub-write-rules : tie.Need-sub-write-rules
+sub-write-rules c = search needs
+
+part-write-rules-start : tie.Need-part-write-rules-start
+part-write-rules-start c = search needs
+
+part-write-rules-end : tie.Need-part-write-rules-end
+part-write-rules-end c = search needs
+
+-- the rules fit behind the header
+fit : (c : tie.Start) → length (take 16 (now (c .args .out))) + length (rulesBytes (flat (bookOf (now (c .args .theory))) .rules)) ≤ length (now (c .args .out))
+fit c = rw (length-take-le 16 (now (c .args .out)) (omega arith), length-rulesBytes) (omega arith)
+
+write-rules-requires : tie.Need-write-rules-requires
+write-rules-requires c κs =
+    let start = c .before .before .before in
+    (start .pre .0, turn-room (written-past 16 (now (start .args .out)) (omega arith)) (fit start))
+
+atoms-requires : tie.Need-atoms-requires
+atoms-requires c κs = accepted _ (c .before .before .before .before .before .before .pre .0 .0) .header .long
+
+header-bytes-requires : tie.Need-header-bytes-requires
+header-bytes-requires c κs = search needs
+
+slice-aggregate-put : tie.Need-slice-aggregate-put
+slice-aggregate-put c = search needs
+
+put-requires : tie.Need-put-requires
+put-requires c κs = search needs
+
+same-length : tie.Need-same-length
+same-length c = search needs
+
+returns : tie.Need-returns
+unfolding imageOf bookOf
+returns c =
+    let start = c .before .before .before .before .before .before .before .before .before .before .before .before .before in
+    let t = now (start .args .theory) in
+    let old = now (start .args .out) in
+    let rules = rulesBytes (flat (bookOf t) .rules) in
+    let put = c .before .before .before .before .before .before .before .before .before .write-rules .ensures in
+    let w = turn (written-past 16 old (omega arith)) rules (fit start) (put .0) (put .1) in
+    let head = header (atomCount t) (sizeOf t) (ruleTotal t) in
+    let e : length head ≡ 16 = length-header (atomCount t) (sizeOf t) (ruleTotal t) in
+    let h : c .before .before .before .before .before .header-bytes .result ≡ head = c .before .before .before .before .before .header-bytes .ensures ∙ rw (c .before .before .before .before .before .before .atoms .ensures .0, start .pre .1 .0, start .pre .1 .1) in
+    c .before .before .put .ensures .1 ∙ rw h (over-last head rules old _ (omega arith) (rw e (w .bytes)))
+
+pub write-spec : {M : Type 1} → statement M
+write-spec =
+    tie.close
+    (tie.spec
+    sub-write-rules
+    part-write-rules-start
+    part-write-rules-end
+    write-rules-requires
+    atoms-requires
+    header-bytes-requires
+    slice-aggregate-put
+    put-requires
+    same-length
+    returns)

@@ -1,0 +1,188 @@
+-- `write_node` writes a node's rules: before each turn those of the rows passed are written, and the next row's go into the unwritten rest. Assumes nothing.
+use mathlib.Core.Path.{_≡_, refl, sym, ap, _∙_}
+use mathlib.Core.List.{List, [], _∷_, _++_, map, map-append}
+use Prim.Native.Nat.{ℕ, zero, suc, _+_, _-_, _*_, _≤_, _<_}
+use native.Mathlib.Numerals.{add-one}
+use native.Mathlib.Omega.{arith}
+use lib.ListN.{length, getD, take, drop, length-append}
+use denote.Ref.{now}
+use borrow.Author.Needs.{needs}
+use Rattle.wire.specs.Wire.{over}
+use Rattle.wire.proofs.Laws.{Written, written-none, turn-room, turn}
+use Rattle.program.specs.Rule.{Rule}
+use Rattle.program.specs.Image.{rulesBytes}
+use Rattle.translation.specs.Flat.{mapRule, simplify}
+use Rattle.translation.specs.Shapes.{shapes, kinds, firstRow, rowCount, shapeRule, kindShape}
+use Rattle.translation.specs.OneRule.{filled, madeOf, madeBytes}
+use Rattle.translation.specs.Turns.{kindRules, rowsTo}
+use Rattle.translation.proofs.Shapes.{row-within, row-read, row-good}
+use Rattle.translation.proofs.OneRule.{ruleIn, madeOf-few, length-ruleIn, madeBytes-madeOf}
+use Rattle.translation.proofs.Turns.{rowsTo-none, rowsTo-more, rowsTo-all}
+use Rattle.translation.proofs.Writing.{bytes-more, bytes-fit}
+use Rattle.translation.proofs.write_node.Statement.{statement}
+use Rattle.translation.proofs.write_node.Tie as tie
+
+abbrev Inv-loop : tie.InvT-loop
+Inv-loop out₀ table index kind terms first count at₀ j₀ out at j = Written (rulesBytes (rowsTo terms kind j)) out₀ out at × (j ≤ count)
+
+abbrev μ-loop : tie.MeasureT-loop
+μ-loop out₀ table index kind terms first count at₀ j₀ out at j = count - j
+
+mul-first : tie.Need-mul-first Inv-loop μ-loop
+mul-first c = search needs
+
+index-1-first : tie.Need-index-1-first Inv-loop μ-loop
+index-1-first c = search needs
+
+index-2-first : tie.Need-index-2-first Inv-loop μ-loop
+index-2-first c = search needs
+
+mul-count : tie.Need-mul-count Inv-loop μ-loop
+mul-count c = search needs
+
+index-1-count : tie.Need-index-1-count Inv-loop μ-loop
+index-1-count c = search needs
+
+index-2-count : tie.Need-index-2-count Inv-loop μ-loop
+index-2-count c = search needs
+
+loop-holds : tie.Need-loop-holds Inv-loop μ-loop
+unfolding rulesBytes
+loop-holds c = (rw rowsTo-none (written-none _), search needs)
+
+-- the row stands in the table, and has few literals
+within : (c : tie.In-loop Inv-loop μ-loop) → let start = c .before .before .before .before .before in
+    getD (getD (now (start .args .index)) (start .args .kind) []) 0 0 + c .before .loop .j < 14
+within c =
+    let start = c .before .before .before .before .before in
+    row-within (now (start .args .table)) (now (start .args .index)) (start .args .kind) (c .before .loop .j) (start .pre .0) (start .pre .1) (start .pre .2) (c .loop-test .taken)
+
+good : (c : tie.In-loop Inv-loop μ-loop) → let start = c .before .before .before .before .before in
+    let s = getD (now (start .args .table)) (getD (getD (now (start .args .index)) (start .args .kind) []) 0 0 + c .before .loop .j) [] in
+    (getD s 0 0 + getD s 1 0 + getD s 2 0 ≤ 3) × ((n : ℕ) → n < 6 → getD s n 0 < 4)
+good c =
+    let start = c .before .before .before .before .before in
+    row-good (now (start .args .table)) (now (start .args .index)) (start .args .kind) (c .before .loop .j) (start .pre .0) (start .pre .1) (start .pre .2) (c .loop-test .taken)
+
+-- the row's rule fits behind those written
+fits : (c : tie.In-loop Inv-loop μ-loop) → let start = c .before .before .before .before .before in let t = now (start .args .terms) in let k = start .args .kind in let j = c .before .loop .j in
+    length (rulesBytes (rowsTo t k j)) + length (rulesBytes (simplify (mapRule (filled t) (shapeRule (kindShape k j))))) ≤ length (now (start .args .out))
+fits c =
+    let start = c .before .before .before .before .before in
+    let t = now (start .args .terms) in
+    let k = start .args .kind in
+    let last : c .before .loop .j < rowCount k = omega (arith, ap (λ (l : List (List ℕ)). getD (getD l k []) 1 0) (start .pre .1)) in
+    bytes-fit (rowsTo t k) (λ j. simplify (mapRule (filled t) (shapeRule (kindShape k j)))) (rowsTo-more t k) (c .before .loop .j) (rowCount k) _ last (rw (rowsTo-all t k (start .pre .2)) (start .pre .3))
+
+add-make : tie.Need-add-make Inv-loop μ-loop
+add-make c = omega (arith, within c)
+
+mul-make : tie.Need-mul-make Inv-loop μ-loop
+mul-make c = omega (arith, within c)
+
+index-1-make : tie.Need-index-1-make Inv-loop μ-loop
+index-1-make c = within c
+
+make-requires : tie.Need-make-requires Inv-loop μ-loop
+make-requires c κs = good (c .before)
+
+-- what was made is the row's rule
+bytes-are : (c : tie.After-make Inv-loop μ-loop) → let loop = c .before .before .before in let start = loop .before .before .before .before in
+    madeBytes (c .make .result) ≡ rulesBytes (simplify (mapRule (filled (now (start .args .terms))) (shapeRule (kindShape (start .args .kind) (loop .loop .j)))))
+bytes-are c =
+    let loop = c .before .before .before in
+    let start = loop .before .before .before .before in
+    ap madeBytes (c .make .ensures) ∙ madeBytes-madeOf _
+    ∙ ap (λ s. rulesBytes (simplify (mapRule (filled (now (start .args .terms))) (shapeRule s))))
+    (row-read (now (start .args .table)) (now (start .args .index)) (start .args .kind) (loop .loop .j) (start .pre .0) (start .pre .1) (start .pre .2) (c .before .before .loop-test .taken))
+
+sub-put-rule : tie.Need-sub-put-rule Inv-loop μ-loop
+sub-put-rule c =
+    let turn = c .before .before in
+    omega (arith, fits turn, turn .before .loop .inv .0)
+
+part-put-rule-start : tie.Need-part-put-rule-start Inv-loop μ-loop
+part-put-rule-start c =
+    let turn = c .before .before in
+    omega (arith, fits turn, turn .before .loop .inv .0)
+
+part-put-rule-end : tie.Need-part-put-rule-end Inv-loop μ-loop
+part-put-rule-end c = search needs
+
+put-rule-requires : tie.Need-put-rule-requires Inv-loop μ-loop
+put-rule-requires c κs =
+    let made = c .before in
+    let turn = made .before .before in
+    let start = turn .before .before .before .before .before in
+    let shape = getD (now (start .args .table)) (getD (getD (now (start .args .index)) (start .args .kind) []) 0 0 + turn .before .loop .j) [] in
+    let terms = now (start .args .terms) in
+    let few = madeOf-few (ruleIn shape terms) in
+    let room = turn-room (turn .before .loop .inv .0) (fits turn) in
+    let r = madeOf (ruleIn shape terms) in
+    let small : (r .heads < 256) × (r .positives < 256) × (r .negatives < 256) = omega (arith, few, length-ruleIn shape terms, good turn) in
+    (rw (made .make .ensures) (small .0), rw (made .make .ensures) (small .1), rw (made .make .ensures) (small .2), rw (bytes-are made) room)
+
+add-at : tie.Need-add-at Inv-loop μ-loop
+add-at c =
+    let made = c .before .before .before .before in
+    let turn = made .before .before in
+    let put = rw (bytes-are made) at (c .before .before .put-rule .ensures .0) in
+    omega (arith, fits turn, turn .before .loop .inv .0)
+
+add-j : tie.Need-add-j Inv-loop μ-loop
+add-j c = omega (arith, within (c .before .before .before .before .before .before))
+
+loop-less : tie.Need-loop-less Inv-loop μ-loop
+loop-less c = search needs
+
+loop-again : tie.Need-loop-again Inv-loop μ-loop
+loop-again c =
+    let made = c .before .before .before .before in
+    let loop = made .before .before .before in
+    let start = loop .before .before .before .before in
+    let put = c .before .before .put-rule .ensures in
+    let f = filled (now (start .args .terms)) in
+    let k = start .args .kind in (
+      rw (bytes-more (rowsTo (now (start .args .terms)) k) (λ j. simplify (mapRule f (shapeRule (kindShape k j)))) (rowsTo-more (now (start .args .terms)) k) (loop .loop .j))
+          (turn (loop .loop .inv .0) (rulesBytes (simplify (mapRule f (shapeRule (kindShape k (loop .loop .j)))))) (fits (made .before .before)) (rw (bytes-are made) at (put .0)) (rw (bytes-are made) at (put .1))),
+      search needs,
+    )
+
+same-length : tie.Need-same-length Inv-loop μ-loop
+same-length c = search needs
+
+returns : tie.Need-returns Inv-loop μ-loop
+returns c =
+    let start = c .before .before .before .before .before in
+    let e : c .before .loop .j ≡ rowCount (start .args .kind) = omega (arith, ap (λ (l : List (List ℕ)). getD (getD l (start .args .kind) []) 1 0) (start .pre .1)) in
+    let w = c .before .loop .inv .0 in
+    let all = rowsTo-all (now (start .args .terms)) (start .args .kind) (start .pre .2) in
+    (rw (e, all) at (w .end), rw (e, all) at (w .bytes))
+
+pub write-node-spec : {M : Type 1} → statement M
+write-node-spec =
+    tie.close
+    (tie.spec
+    Inv-loop
+    μ-loop
+    mul-first
+    index-1-first
+    index-2-first
+    mul-count
+    index-1-count
+    index-2-count
+    loop-holds
+    add-make
+    mul-make
+    index-1-make
+    make-requires
+    sub-put-rule
+    part-put-rule-start
+    part-put-rule-end
+    put-rule-requires
+    add-at
+    add-j
+    loop-less
+    loop-again
+    same-length
+    returns)

@@ -1,0 +1,37 @@
+-- What translation and extension answer, and what their output holds then.
+use mathlib.Core.Bool.{cond}
+use mathlib.Core.List.{List, [], _∷_, _++_, map}
+use Prim.Native.Nat.{ℕ}
+use lib.ListN.{length}
+use Rattle.refusal.specs.Table.{Row, none}
+use Rattle.refusal.specs.Rows.{row8, row14, readingRows}
+use Rattle.wire.specs.Wire.{over}
+use Rattle.logic.specs.Value.{number}
+use Rattle.logic.specs.Formula.{readingOf}
+use Rattle.theory.specs.Image.{atomCount, bookOf}
+use Rattle.program.specs.Image.{imageLength, imageOf}
+use Rattle.translation.specs.Flat.{flat}
+use Rattle.translation.specs.Extension.{extend}
+
+-- B and K of the program of a theory image.
+abbrev pub sizeOf : List ℕ → ℕ
+sizeOf t = flat (bookOf t) .size
+
+abbrev pub ruleTotal : List ℕ → ℕ
+ruleTotal t = length (flat (bookOf t) .rules)
+
+-- The rows of a translation of a checked theory image, in the order tested; `room` is the output's length.
+unfoldable pub translateRows : (t : List ℕ) → (room : ℕ) → List Row
+translateRows t room = row14 (sizeOf t) ∷ row8 (imageLength (ruleTotal t)) room ∷ []
+
+-- What the output holds then: the flat program's image over its start, or what it held where a row applies.
+unfoldable pub translated : (t out : List ℕ) → List ℕ
+translated t out = cond (none (translateRows t (length out))) (over (imageOf (flat (bookOf t))) out) out
+
+-- The rows of an extension of a reading, in the order tested.
+unfoldable pub extendRows : (t reading : List ℕ) → (room : ℕ) → List Row
+extendRows t reading room = row14 (sizeOf t) ∷ (readingRows (atomCount t) reading ++ (row8 (sizeOf t) room ∷ []))
+
+-- What the output holds then: the extension's bytes over its start, or what it held where a row applies.
+unfoldable pub extended : (t reading out : List ℕ) → List ℕ
+extended t reading out = cond (none (extendRows t reading (length out))) (over (map number (extend (bookOf t) (readingOf reading))) out) out
