@@ -2,7 +2,9 @@
 ghost use mathlib.Core.Path.{_≡_};
 ghost use Prim.Native.Nat.{_≤_};
 ghost use lib.ListN.{length};
+use crate::call::BOTH;
 use crate::call::NOTHING;
+use crate::call::OUTPUT;
 use crate::call::READING;
 
 // More bytes than any buffer has: what a malformed word counts for.
@@ -13,16 +15,46 @@ pub struct Words {
     pub shape: u8,
     pub image: usize,
     pub reading: usize,
+    pub out: usize,
 }
 
 // Reads what follows the two letters of a call.
-pub fn read(text: &[u8], image: &mut [u8], reading: &mut [u8]) -> Words {
-    let slash = find(text, b'/');
-    let shape = if slash < text.len() { READING } else { NOTHING };
+pub fn read(
+    text: &[u8],
+    program: &[u8],
+    extension: &[u8],
+    image: &mut [u8],
+    reading: &mut [u8],
+) -> Words {
+    let arrow = find(text, b'>');
+    let slash = find(&text[0..arrow], b'/');
+    let out = if arrow < text.len() {
+        decimal(after(text, arrow + 2))
+    } else {
+        0
+    };
     Words {
-        shape,
-        image: bytes(after(&text[0..slash], 2), image),
-        reading: bytes(after(text, slash + 1), reading),
+        shape: shape(slash < arrow, arrow < text.len()),
+        image: bytes(after(&text[0..slash], 2), program, extension, image),
+        reading: bytes(
+            after(&text[0..arrow], slash + 1),
+            program,
+            extension,
+            reading,
+        ),
+        out,
+    }
+}
+
+fn shape(has_reading: bool, has_output: bool) -> u8 {
+    if has_reading && has_output {
+        BOTH
+    } else if has_reading {
+        READING
+    } else if has_output {
+        OUTPUT
+    } else {
+        NOTHING
     }
 }
 
@@ -48,17 +80,52 @@ pub fn after(text: &[u8], from: usize) -> &[u8] {
     &text[from..]
 }
 
+// The first so many bytes, or none where there are fewer.
+pub fn first(bytes: &[u8], count: usize) -> &[u8] {
+    if bytes.len() < count {
+        return &bytes[..0];
+    }
+    &bytes[0..count]
+}
+
 // Puts the bytes of an argument at the start of `dest`, and gives how many they are.
-fn bytes(text: &[u8], dest: &mut [u8]) -> usize {
+fn bytes(text: &[u8], program: &[u8], extension: &[u8], dest: &mut [u8]) -> usize {
     let mut count = 0;
     let mut at = 0;
     while at < text.len() {
         let rest = &text[at..];
         let size = find(rest, b' ');
-        count = repeat(&rest[0..size], dest, count);
+        count = put(&rest[0..size], program, extension, dest, count);
         at = at + size + 1;
     }
     count
+}
+
+// Puts the bytes of one word after the first `count` bytes of `dest`, and gives how many there are now.
+fn put(word: &[u8], program: &[u8], extension: &[u8], dest: &mut [u8], count: usize) -> usize {
+    if is(word, b'p') {
+        append(program, dest, count)
+    } else if is(word, b'x') {
+        append(extension, dest, count)
+    } else {
+        repeat(word, dest, count)
+    }
+}
+
+fn is(word: &[u8], byte: u8) -> bool {
+    word.len() == 1 && word[0] == byte
+}
+
+// Puts bytes after the first `count` bytes of `dest`.
+pub fn append(bytes: &[u8], dest: &mut [u8], count: usize) -> usize {
+    if dest.len() < count {
+        return TOO_MANY;
+    }
+    if dest.len() - count < bytes.len() {
+        return TOO_MANY;
+    }
+    wire::put(&mut dest[count..], bytes);
+    count + bytes.len()
 }
 
 // Puts a byte as often as its word says after the first `count` bytes of `dest`.

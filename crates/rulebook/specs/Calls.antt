@@ -1,6 +1,6 @@
 -- What each public call gives, for every input: number, place and result by the rows of the refusal table in their order, and every byte of its output.
 use mathlib.Core.Bool.{Bool, true, false}
-use mathlib.Core.List.{List, [], _∷_, _++_}
+use mathlib.Core.List.{List, [], _∷_, _++_, map}
 use Prim.Native.Nat.{ℕ}
 use lib.ListN.{length}
 use Rattle.refusal.specs.declared.Answer.{Answer}
@@ -8,6 +8,7 @@ use Rattle.refusal.specs.Limits.{mostTrue}
 use Rattle.refusal.specs.Table.{Row, answer}
 use Rattle.refusal.specs.Rows.{readingRows, candidateRows, row11, countTrue}
 use Rattle.wire.specs.Outcome.{Outcome, outcome, written}
+use Rattle.logic.specs.Value.{number}
 use Rattle.logic.specs.Formula.{readingOf, satisfies}
 use Rattle.logic.specs.AnswerSet.{isAnswerSet}
 use Rattle.theory.specs.Book.{bookFormulas}
@@ -17,7 +18,8 @@ use Rattle.program.specs.Program.{satisfiesProgram, programFormulas}
 use Rattle.program.specs.Image.{sizeOf, programOf, imageOf}
 use Rattle.program.specs.Rows.{programRows}
 use Rattle.translation.specs.Flat.{flat}
-use Rattle.translation.specs.Outcome.{ruleTotal, translateRows}
+use Rattle.translation.specs.Outcome.{ruleTotal, translateRows, extendRows}
+use Rattle.translation.specs.Extension.{extend as extension}
 use Rattle.stable.specs.Subset.{setOf}
 use Rattle.stable.specs.Listing.{setsOf, setsRows, listing}
 
@@ -54,6 +56,14 @@ translateCallRows t out = theoryRows t ++ translateRows t (length out)
 
 abbrev pub translate : (theory out : List ℕ) → Outcome
 translate t out = outcome (answer (translateCallRows t out) (ruleTotal t)) (written (translateCallRows t out) (imageOf (flat (bookOf t))) out)
+
+-- Extending: rows 1-7, 14, 9, 10, 8; the result is B, and the bytes are the reading's and then each label's value.
+abbrev pub extendCallRows : (theory reading out : List ℕ) → List Row
+extendCallRows t r out = theoryRows t ++ extendRows t r (length out)
+
+abbrev pub extend : (theory reading out : List ℕ) → Outcome
+extend t r out =
+    outcome (answer (extendCallRows t r out) (flat (bookOf t) .size)) (written (extendCallRows t r out) (map number (extension (bookOf t) (readingOf r))) out)
 
 -- The row of a candidate test's own: over 16 atoms true.
 abbrev pub row11True : (candidate : List ℕ) → Row

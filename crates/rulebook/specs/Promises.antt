@@ -41,18 +41,19 @@ use Rattle.program.proofs.Reading as ReadingBack
 use Rattle.program.proofs.Writing
 use Rattle.translation.specs.Table.{labelCount}
 use Rattle.translation.specs.Flat.{flat}
-use Rattle.translation.specs.Extension.{extend, Extends, firstLabel}
+use Rattle.translation.specs.Extension.{extend as extension, Extends, firstLabel}
 use Rattle.translation.specs.OneToOne.{OneToOne}
-use Rattle.translation.specs.Outcome.{ruleTotal, translateRows}
+use Rattle.translation.specs.Outcome.{ruleTotal, translateRows, extendRows}
 use Rattle.translation.proofs.Extensions
 use Rattle.translation.proofs.Demand3
+use Rattle.translation.proofs.Writable
 use Rattle.translation.proofs.Bytes
 use Rattle.translation.proofs.BenchCases as programs
 use Rattle.stable.specs.Subset.{setOf}
 use Rattle.stable.specs.Number.{numberOf}
 use Rattle.stable.specs.Listing.{setsOf as bookSets, setsRows, listing, Ascending}
 use Rattle.stable.proofs.Listings
-use Rattle.rulebook.specs.Calls.{yes, checkTheory, evaluateTheoryRows, evaluateTheory, translateCallRows, translate, testTheoryRows, testTheory, listSetsRows, listSets, checkProgram, evaluateProgramRows, evaluateProgram, testProgramRows, testProgram}
+use Rattle.rulebook.specs.Calls.{yes, checkTheory, evaluateTheoryRows, evaluateTheory, translateCallRows, translate, extendCallRows, extend, testTheoryRows, testTheory, listSetsRows, listSets, checkProgram, evaluateProgramRows, evaluateProgram, testProgramRows, testProgram}
 
 -- Demand 1: no two outcomes meet a call's contract, and each row's number is given exactly where that row applies and no earlier one does.
 
@@ -86,6 +87,12 @@ translate-unique t o a b p q = p ∙ sym q
 translate-exact : (t o : List ℕ) → Exact (translateCallRows t o) (ruleTotal t) (translate t o .answer)
 translate-exact t o = unfold theoryRows headerRows translateRows in answer-exact (translateCallRows t o) _ refl
 
+extend-unique : (t r o : List ℕ) (a b : Outcome) → a ≡ extend t r o → b ≡ extend t r o → a ≡ b
+extend-unique t r o a b p q = p ∙ sym q
+
+extend-exact : (t r o : List ℕ) → Exact (extendCallRows t r o) (flat (bookOf t) .size) (extend t r o .answer)
+extend-exact t r o = unfold theoryRows headerRows extendRows argumentRows in answer-exact (extendCallRows t r o) _ refl
+
 testTheory-unique : (t c : List ℕ) (a b : Answer) → a ≡ testTheory t c → b ≡ testTheory t c → a ≡ b
 testTheory-unique t c a b p q = p ∙ sym q
 
@@ -112,6 +119,13 @@ translate-refused t o = Outcome.written-refused (translateCallRows t o) (ruleTot
 translate-accepted : (t o : List ℕ) → none (translateCallRows t o) ≡ true → let p = imageOf (flat (bookOf t)) in
     (take (length p) (translate t o .out) ≡ p) × (drop (length p) (translate t o .out) ≡ drop (length p) o)
 translate-accepted t o = Outcome.written-accepted (translateCallRows t o) (imageOf (flat (bookOf t))) o
+
+extend-refused : (t r o : List ℕ) → (extend t r o .answer .number ≡ 0 → ⊥) → extend t r o .out ≡ o
+extend-refused t r o = Outcome.written-refused (extendCallRows t r o) (flat (bookOf t) .size) (map number (extension (bookOf t) (readingOf r))) o
+
+extend-accepted : (t r o : List ℕ) → none (extendCallRows t r o) ≡ true → let x = map number (extension (bookOf t) (readingOf r)) in
+    (take (length x) (extend t r o .out) ≡ x) × (drop (length x) (extend t r o .out) ≡ drop (length x) o)
+extend-accepted t r o = Outcome.written-accepted (extendCallRows t r o) (map number (extension (bookOf t) (readingOf r))) o
 
 listSets-refused : (t o : List ℕ) → (listSets t o .answer .number ≡ 0 → ⊥) → listSets t o .out ≡ o
 listSets-refused t o = Outcome.written-refused (listSetsRows t o) (length (bookSets t)) (listing t) o
@@ -181,46 +195,46 @@ module _ (b : Book) (ok : WellFormed b) where
       → (satisfies I (bookFormulas b) ≡ true) ↔ ((J : Reading) × Extends b I J × (satisfiesProgram J (flat b) ≡ true))
   satisfied = Demand3.satisfied-iff b ok
 
-  only-one : (I J : Reading) → Extends b I J → satisfiesProgram J (flat b) ≡ true → J ≡ extend b I
+  only-one : (I J : Reading) → Extends b I J → satisfiesProgram J (flat b) ≡ true → J ≡ extension b I
   only-one = Demand3.extension-only b ok
 
   label-L : (I : Reading) → length I ≡ b .atoms → (k : ℕ) → k < length (b .nodes) → 0 < labelCount (nodeAt (b .nodes) k .kind)
-      → valueOf (extend b I) (firstLabel b k) ≡ value I (formulaAt (nodeFormulas b) k)
+      → valueOf (extension b I) (firstLabel b k) ≡ value I (formulaAt (nodeFormulas b) k)
   label-L = Extensions.label-L b ok
 
   label-M : (I : Reading) → length I ≡ b .atoms → (k : ℕ) → k < length (b .nodes) → nodeAt (b .nodes) k .kind ≡ impliesKind
-      → valueOf (extend b I) (suc (firstLabel b k)) ≡ negation (value I (formulaAt (nodeFormulas b) (nodeAt (b .nodes) k .right)))
+      → valueOf (extension b I) (suc (firstLabel b k)) ≡ negation (value I (formulaAt (nodeFormulas b) (nodeAt (b .nodes) k .right)))
   label-M = Extensions.label-M b ok
 
   one-to-one : (Γ : List Formula) → AllOver (b .atoms) Γ
       → OneToOne (b .atoms) (flat b .size) (bookFormulas b ++ Γ) (programFormulas (flat b) ++ Γ)
   one-to-one = Demand3.one-to-one b ok
 
--- Demand 3 of the bytes: p is the image that translation writes, x what extension writes for the reading r.
+-- Demand 3 of the bytes, for every theory image that the check accepts: p is the image that translation writes, x what extension writes for the reading r.
 
-module _ (t o : List ℕ) (ok : none (translateCallRows t o) ≡ true) where
+module _ (t : List ℕ) (ok : none (theoryRows t) ≡ true) where
   abbrev p : List ℕ
   p = imageOf (flat (bookOf t))
 
   abbrev x : (r : List ℕ) → List ℕ
-  x r = map number (extend (bookOf t) (readingOf r))
+  x r = map number (extension (bookOf t) (readingOf r))
 
   translate-checked : checkProgram p ≡ accepted 1
-  translate-checked = answer-none (programRows p) 1 (Bytes.program-accepted t (length o) ok)
+  translate-checked = answer-none (programRows p) 1 (Writable.translated-accepted t ok)
 
   translate-read-back : programOf p ≡ flat (bookOf t)
-  translate-read-back = Bytes.program-read-back t (length o) ok
+  translate-read-back = Writable.translated-read t ok
 
   bytes-satisfied : (r : List ℕ) → none (readingRows (atomCount t) r) ≡ true → evaluateProgram p (x r) ≡ evaluateTheory t r
-  bytes-satisfied r read = Bytes.bytes-evaluated t (length o) ok r read yes
+  bytes-satisfied r read = Bytes.bytes-evaluated t ok r read yes
 
   bytes-only-one : (r : List ℕ) → none (readingRows (atomCount t) r) ≡ true
       → (j : List ℕ) → none (readingRows (sizeOf p) j) ≡ true → take (atomCount t) j ≡ r → satisfiesProgram (readingOf j) (programOf p) ≡ true → j ≡ x r
-  bytes-only-one = Bytes.bytes-only-one t (length o) ok
+  bytes-only-one = Bytes.bytes-only-one t ok
 
   bytes-one-to-one : (Γ : List Formula) → AllOver (atomCount t) Γ
       → OneToOne (atomCount t) (sizeOf p) (bookFormulas (bookOf t) ++ Γ) (programFormulas (programOf p) ++ Γ)
-  bytes-one-to-one = Bytes.bytes-one-to-one t (length o) ok
+  bytes-one-to-one = Bytes.bytes-one-to-one t ok
 
 -- P1 to P9: one table, one claim; and the same of their flat programs, labels dropped.
 

@@ -2,7 +2,7 @@
 use refusal::Answer;
 ghost use mathlib.Core.Path.{_≡_};
 ghost use Rattle.wire.specs.Outcome.{outcome};
-ghost use Rattle.rulebook.specs.Calls.{yes, checkTheory, evaluateTheory, translate, testTheory, listSets, checkProgram, evaluateProgram, testProgram};
+ghost use Rattle.rulebook.specs.Calls.{yes, checkTheory, evaluateTheory, translate, extend, testTheory, listSets, checkProgram, evaluateProgram, testProgram};
 
 // Checks a theory image.
 #[no_mangle]
@@ -40,6 +40,18 @@ pub extern "C" fn rulebook_translate(theory: &[u8], out: &mut [u8]) -> Answer
         return image;
     }
     translation::translate(theory, out)
+}
+
+// Extends a reading of a theory's atoms to the labels of its flat program.
+#[no_mangle]
+pub extern "C" fn rulebook_extend(theory: &[u8], reading: &[u8], out: &mut [u8]) -> Answer
+    ensures { λ r. ⌜ outcome r (now (out .exit)) ≡ extend (now (theory .entry)) (now (reading .entry)) (now (out .entry)) ⌝ }
+{
+    let image = theory::check(theory);
+    if image.number != 0 {
+        return image;
+    }
+    translation::extend(theory, reading, out)
 }
 
 // Whether a candidate, a byte 0 or 2 for each atom, is an answer set of a theory.

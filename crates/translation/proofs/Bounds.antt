@@ -15,7 +15,7 @@ use Rattle.translation.specs.Flat.{Term, removes, simplify, fill, fact, 
 use Rattle.translation.specs.Turns.{nextTo, termsTo, rulesTo, factsTo}
 use Rattle.translation.proofs.Turns.{rulesTo-none, rulesTo-more, factsTo-none, factsTo-more}
 
-pub length-simplify : (r : RuleOf Term) → length (simplify r) ≤ 1
+length-simplify : (r : RuleOf Term) → length (simplify r) ≤ 1
 length-simplify r = cases (removes r) (λ t. rw t (omega arith)) (λ f. rw f (omega arith))
 
 length-instances : (f : Slot → Term) (rs : List (RuleOf Slot)) → length (instances f rs) ≤ length rs

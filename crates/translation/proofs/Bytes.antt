@@ -1,58 +1,36 @@
 -- Demand 3 of the bytes: the flat program of an accepted image passes the program check and reads back, so what was proved of book and program holds of the images and of the extension's bytes.
 use mathlib.Core.Path.{_≡_, refl, sym, ap, ap₂, _∙_}
-use mathlib.Core.Bool.{Bool, true, false, not, _||_}
+use mathlib.Core.Bool.{Bool, true, false, _||_}
 use mathlib.Core.List.{List, [], _∷_, _++_, map}
-use Prim.Native.Nat.{ℕ, zero, suc, _+_, _*_, _≤_, _<_}
+use Prim.Native.Nat.{ℕ, zero, suc, _≤_, _<_}
 use native.Mathlib.Omega.{arith}
 use lib.Dec.{ltb}
-use lib.ListN.{length, getD, take, length-append, length-map, List·getD-map}
+use lib.ListN.{length, getD, take, length-map, List·getD-map}
 use borrow.Author.Tests.{le-ltb, eq-eqb, ltb-false}
-use Rattle.refusal.specs.Limits.{mostAtoms, mostB, mostRules}
 use Rattle.refusal.specs.Table.{none, answer, accepted}
-use Rattle.refusal.specs.Rows.{wrong, row8, row14, argumentRows, readingRows}
-use Rattle.refusal.proofs.Table.{none-cons, none-split, answer-both}
+use Rattle.refusal.specs.Rows.{wrong, argumentRows, readingRows}
+use Rattle.refusal.proofs.Table.{answer-both}
 use Rattle.refusal.proofs.First.{firstSuch-none}
 use Rattle.refusal.proofs.Rows.{none-argumentRows}
-use Rattle.wire.proofs.Sequence.{length-upTo}
 use Rattle.logic.specs.declared.Value.the-variants.{Neither}
 use Rattle.logic.specs.Value.{number, ofByte}
 use Rattle.logic.specs.Formula.{Formula, Reading, readingOf, satisfies, AllOver}
-use Rattle.logic.proofs.Bools.{&&-join, iff-equal}
+use Rattle.logic.proofs.Bools.{iff-equal}
 use Rattle.logic.proofs.Values.{number-ofByte, number-small}
-use Rattle.theory.specs.Book.{Node, bookFormulas}
-use Rattle.theory.specs.Image.{atomCount, nodeCount, rootCount, bookOf}
+use Rattle.theory.specs.Book.{bookFormulas}
+use Rattle.theory.specs.Image.{atomCount, bookOf}
 use Rattle.theory.specs.Rows.{theoryRows}
 use Rattle.theory.proofs.Accepted
 use Rattle.theory.proofs.NodeValues.{readingOf-number}
 use Rattle.program.specs.Program.{Program, satisfiesProgram, programFormulas}
-use Rattle.program.specs.Image.{imageLength, sizeOf, programOf, imageOf}
-use Rattle.program.specs.Rows.{outside, programRows}
-use Rattle.program.specs.Writable.{writable}
-use Rattle.program.proofs.Reading.{imageOf-accepted, programOf-imageOf}
-use Rattle.translation.specs.Table.{labelCount}
-use Rattle.translation.specs.Flat.{Term, fill, fact, termAt, term, facts, rulesFrom, flat}
+use Rattle.program.specs.Image.{sizeOf, programOf, imageOf}
+use Rattle.program.specs.Rows.{programRows}
+use Rattle.translation.specs.Flat.{flat}
 use Rattle.translation.specs.Extension.{extend, Extends}
 use Rattle.translation.specs.OneToOne.{OneToOne}
-use Rattle.translation.specs.Outcome.{translateRows}
-use Rattle.translation.proofs.Bounds.{kind-rules, length-simplify}
 use Rattle.translation.proofs.Extensions.{length-extend}
 use Rattle.translation.proofs.Demand3.{extension-satisfies, extension-only, one-to-one}
-use Rattle.translation.proofs.Writable.{flat-writable}
-
--- There are at most 6N + R rules.
-
-length-facts : (ts : List Term) (roots : List ℕ) → length (facts ts roots) ≤ length roots
-length-facts ts [] = omega arith
-length-facts ts (k ∷ ks) = rw length-append (omega (arith, length-simplify (fact (termAt ts k)), length-facts ts ks))
-
-length-rulesFrom : (roots : List ℕ) (ts : List Term) (next : ℕ) (ns : List Node) → length (rulesFrom roots ts next ns) ≤ length ns * 6 + length roots
-length-rulesFrom roots ts next [] = omega (arith, length-facts ts roots)
-length-rulesFrom roots ts next (n ∷ ns) = rw length-append
-    (omega (
-      arith,
-      kind-rules (fill (termAt ts (n .left)) (termAt ts (n .right)) next) (n .kind),
-      length-rulesFrom roots (ts ++ (term next n ∷ [])) (next + labelCount (n .kind)) ns,
-    ))
+use Rattle.translation.proofs.Writable.{translated-accepted, translated-read}
 
 -- Bytes of readings.
 
@@ -81,48 +59,15 @@ reading-accepted I n e =
     let size : length (map number I) ≡ n = length-map I number ∙ e in
     rw (eq-eqb (length (map number I)) n size, firstSuch-none 10 (λ i. wrong false (getD (map number I) i 0)) (length (map number I)) .1 (λ i l. number-right I i))
 
-length-nodes : (t : List ℕ) → length (bookOf t .nodes) ≡ nodeCount t
-unfolding bookOf
-length-nodes t = length-upTo _ (nodeCount t)
-
-length-roots : (t : List ℕ) → length (bookOf t .roots) ≡ rootCount t
-unfolding bookOf
-length-roots t = length-upTo _ (rootCount t)
-
 atoms-are : (t : List ℕ) → bookOf t .atoms ≡ atomCount t
 unfolding bookOf
 atoms-are t = refl
 
--- A theory image that the check accepts, and whose program has room.
-module _ (t : List ℕ) (room : ℕ) (clear : none (theoryRows t ++ translateRows t room) ≡ true) where
-  ok : none (theoryRows t) ≡ true
-  ok = none-split (theoryRows t) (translateRows t room) clear .0
-
-  fits : flat (bookOf t) .size ≤ mostB
-  unfolding translateRows
-  fits = ltb-false _ _ (none-cons (row14 (flat (bookOf t) .size)) (row8 (imageLength (length (flat (bookOf t) .rules))) room ∷ []) (none-split (theoryRows t) (translateRows t room) clear .1) .0)
-
-  pub program-writable : writable (flat (bookOf t)) ≡ true
-  program-writable =
-      let a = Accepted.accepted t ok .header in
-      let b = bookOf t in
-      let few : b .atoms ≤ mostAtoms = rw atoms-are (a .few-atoms) in
-      let many : length (flat b .rules) ≤ mostRules
-      = omega (arith, length-rulesFrom (b .roots) [] (b .atoms) (b .nodes), length-nodes t, length-roots t, a .few-nodes, a .few-roots) in
-      let inside : not (outside (b .atoms) (flat b .size) (length (flat b .rules))) ≡ true
-      = rw (le-ltb mostAtoms (b .atoms) few, le-ltb (flat b .size) (b .atoms) (omega arith), le-ltb mostB (flat b .size) fits, le-ltb mostRules (length (flat b .rules)) many) in
-      &&-join inside (flat-writable b (Accepted.accepted-wellFormed t ok))
-
-  -- What is written passes the program check, and reads back as the flat program.
-  pub program-accepted : none (programRows (imageOf (flat (bookOf t)))) ≡ true
-  program-accepted = imageOf-accepted (flat (bookOf t)) program-writable
-
-  pub program-read-back : programOf (imageOf (flat (bookOf t))) ≡ flat (bookOf t)
-  program-read-back = programOf-imageOf (flat (bookOf t)) program-writable
-
+-- A theory image that the check accepts.
+module _ (t : List ℕ) (ok : none (theoryRows t) ≡ true) where
   size-is : sizeOf (imageOf (flat (bookOf t))) ≡ flat (bookOf t) .size
   unfolding programOf
-  size-is = ap (λ (p : Program). p .size) program-read-back
+  size-is = ap (λ (p : Program). p .size) (translated-read t ok)
 
   -- A reading of the theory's atoms.
   module _ (r : List ℕ) (read : none (readingRows (atomCount t) r) ≡ true) where
@@ -132,7 +77,7 @@ module _ (t : List ℕ) (room : ℕ) (clear : none (theoryRows t ++ translateRow
     -- The program answers on the extension what the theory answers on the reading,
     pub bytes-satisfied : satisfiesProgram (readingOf (map number (extend (bookOf t) (readingOf r)))) (programOf (imageOf (flat (bookOf t))))
         ≡ satisfies (readingOf r) (bookFormulas (bookOf t))
-    bytes-satisfied = rw (readingOf-number (extend (bookOf t) (readingOf r)), program-read-back)
+    bytes-satisfied = rw (readingOf-number (extend (bookOf t) (readingOf r)), translated-read t ok)
         (iff-equal _ _ (extension-satisfies (bookOf t) (Accepted.accepted-wellFormed t ok) (readingOf r) long))
 
     pub extension-accepted : none (readingRows (sizeOf (imageOf (flat (bookOf t)))) (map number (extend (bookOf t) (readingOf r)))) ≡ true
@@ -144,7 +89,7 @@ module _ (t : List ℕ) (room : ℕ) (clear : none (theoryRows t ++ translateRow
         (f (satisfiesProgram (readingOf (map number (extend (bookOf t) (readingOf r)))) (programOf (imageOf (flat (bookOf t))))))
         ≡ answer (theoryRows t ++ readingRows (atomCount t) r) (f (satisfies (readingOf r) (bookFormulas (bookOf t))))
     bytes-evaluated f =
-        answer-both (programRows (imageOf (flat (bookOf t)))) _ _ program-accepted extension-accepted
+        answer-both (programRows (imageOf (flat (bookOf t)))) _ _ (translated-accepted t ok) extension-accepted
         ∙ ap (λ b. accepted (f b)) bytes-satisfied
         ∙ sym (answer-both (theoryRows t) (readingRows (atomCount t) r) _ ok read)
 
@@ -156,9 +101,9 @@ module _ (t : List ℕ) (room : ℕ) (clear : none (theoryRows t ++ translateRow
         let extends : Extends (bookOf t) (readingOf r) (readingOf j)
         = record { sized = length-map j ofByte ∙ right .0 ∙ size-is; same-atoms = rw atoms-are (take-readingOf (atomCount t) j ∙ ap readingOf e) } in
         sym (number-readingOf j (right .1))
-        ∙ ap (map number) (extension-only (bookOf t) (Accepted.accepted-wellFormed t ok) (readingOf r) (readingOf j) extends (rw program-read-back at h))
+        ∙ ap (map number) (extension-only (bookOf t) (Accepted.accepted-wellFormed t ok) (readingOf r) (readingOf j) extends (rw (translated-read t ok) at h))
 
   -- The answer sets match one to one beside further formulas over the theory's atoms.
   pub bytes-one-to-one : (Γ : List Formula) → AllOver (atomCount t) Γ
       → OneToOne (atomCount t) (sizeOf (imageOf (flat (bookOf t)))) (bookFormulas (bookOf t) ++ Γ) (programFormulas (programOf (imageOf (flat (bookOf t)))) ++ Γ)
-  bytes-one-to-one Γ over = rw (size-is, program-read-back, ← atoms-are t) (one-to-one (bookOf t) (Accepted.accepted-wellFormed t ok) Γ (rw atoms-are over))
+  bytes-one-to-one Γ over = rw (size-is, translated-read t ok, ← atoms-are t) (one-to-one (bookOf t) (Accepted.accepted-wellFormed t ok) Γ (rw atoms-are over))

@@ -13,4 +13,5 @@ pub mod Writing
 pub mod Sections
 pub mod Outcome
 pub mod Writable
+pub mod Labels
 pub mod Bytes

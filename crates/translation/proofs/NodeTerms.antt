@@ -44,11 +44,11 @@ labelCount-le andKind = omega arith
 labelCount-le orKind = omega arith
 labelCount-le impliesKind = omega arith
 
--- A kind has no rules, or its operands are earlier nodes.
-operands : (A k : ℕ) (kind : Kind) (left right : ℕ) → left < leftLimit A k kind → right < rightLimit k kind → (rows kind ≡ []) ⊎ ((left < k) × (right < k))
-operands A k falseKind left right h l = inl refl
-operands A k trueKind left right h l = inl refl
-operands A k atomKind left right h l = inl refl
+-- A kind has no rules and no labels, or its operands are earlier nodes.
+pub operands : (A k : ℕ) (kind : Kind) (left right : ℕ) → left < leftLimit A k kind → right < rightLimit k kind → ((rows kind ≡ []) × (labelCount kind ≡ 0)) ⊎ ((left < k) × (right < k))
+operands A k falseKind left right h l = inl (refl, refl)
+operands A k trueKind left right h l = inl (refl, refl)
+operands A k atomKind left right h l = inl (refl, refl)
 operands A k notKind left right h l = inr (h, omega arith)
 operands A k andKind left right h l = inr (h, l)
 operands A k orKind left right h l = inr (h, l)
@@ -64,7 +64,7 @@ term-below A k next andKind left h l = omega arith
 term-below A k next orKind left h l = omega arith
 term-below A k next impliesKind left h l = omega arith
 
-below-le : (B C : ℕ) → B ≤ C → (t : Term) → Below B t → Below C t
+pub below-le : (B C : ℕ) → B ≤ C → (t : Term) → Below B t → Below C t
 below-le B C h (constant b) l = tt
 below-le B C h (name a) l = omega arith
 
@@ -85,7 +85,7 @@ module _ (A : ℕ) (s : List ℕ) (N : ℕ) (ok : Nodes A s N) where
   kind-known : (k : ℕ) → k < N → getD s (k * 6) 0 < 7
   kind-known k h = ltb-true _ _ (&&-split (ltb (getD s (k * 6) 0) 7) _ (ok .keep k h) .0)
 
-  node-fits : (k : ℕ) → k < N → (nodeIn s k .left < leftLimit A k (nodeIn s k .kind)) × (nodeIn s k .right < rightLimit k (nodeIn s k .kind))
+  pub node-fits : (k : ℕ) → k < N → (nodeIn s k .left < leftLimit A k (nodeIn s k .kind)) × (nodeIn s k .right < rightLimit k (nodeIn s k .kind))
   node-fits k h =
       let rest = &&-split (ltb (getD s (k * 6) 0) 7) _ (ok .keep k h) .1 in
       let fit = &&-split (ltb (nodeIn s k .left) _) _ (&&-split (eqb (getD s (k * 6 + 1) 0) 0) _ rest .1) in
@@ -130,7 +130,7 @@ module _ (A : ℕ) (s : List ℕ) (N : ℕ) (ok : Nodes A s N) where
       (λ m g e. rw (← add-one, termsTo-more) (List·getD-append (termsTo A s m) _ (constant false) j (omega (arith, length-termsTo A s m)) ∙ e)) n h
 
 -- Within a list the default does not matter.
-getD-within : {S : Type 0} (l : List S) (i : ℕ) (d e : S) → i < length l → getD l i d ≡ getD l i e
+pub getD-within : {S : Type 0} (l : List S) (i : ℕ) (d e : S) → i < length l → getD l i d ≡ getD l i e
 getD-within [] i d e h = absurd (omega arith)
 getD-within (s ∷ l) zero d e h = refl
 getD-within (s ∷ l) (suc i) d e h = getD-within l i d e (omega arith)
@@ -169,7 +169,7 @@ module _ (A : ℕ) (s : List ℕ) (N : ℕ) (ok : Nodes A s N) (scratch : List �
       let next = nextTo A s k in
       let at : (j : ℕ) → j < k → decode (getD scratch j 0) ≡ termAt (termsTo A s k) j
       = λ j l. scratch-term A s N ok scratch numbered j (omega arith) ∙ terms-keep A s N ok k N (omega arith) j l in
-      ⊎-elim (λ e. rw e)
+      ⊎-elim (λ e. rw (e .0))
       (λ l. ap (λ f. instances f (rows (n .kind)))
       (filled-fill _ _ next _ _ (at (n .left) (l .0)) (at (n .right) (l .1)) (omega (arith, next-le A s N ok k, ok .few, ok .few-atoms))))
       (operands A k (n .kind) (n .left) (n .right) (node-fits A s N ok k h .0) (node-fits A s N ok k h .1))

@@ -1,19 +1,27 @@
 -- What translation and extension answer at each of their returns, by the rows' tests; and their rows have numbers of their own. Assumes nothing.
-use mathlib.Core.Path.{_≡_, refl}
+use mathlib.Core.Path.{_≡_, refl, ap, _∙_}
 use mathlib.Core.Bool.{Bool, true, false}
-use mathlib.Core.List.{List, [], _∷_, _++_}
+use mathlib.Core.List.{List, [], _∷_, _++_, map}
 use Prim.Native.Nat.{ℕ, _≤_, _<_}
 use lib.Dec.{ltb}
-use lib.ListN.{length}
+use lib.ListN.{length, take, drop}
 use borrow.Author.Tests.{lt-ltb, le-ltb}
 use Rattle.refusal.specs.Limits.{mostB}
-use Rattle.refusal.specs.Table.{refused, accepted, answer, none, numbered, Exact}
-use Rattle.refusal.proofs.Table.{answer-exact}
+use Rattle.refusal.specs.Table.{Row, refused, accepted, answer, none, Exact}
+use Rattle.refusal.specs.Rows.{row8, argumentRows, readingRows}
+use Rattle.refusal.specs.declared.Answer.{Answer}
+use Rattle.refusal.proofs.Table.{none-cons, answer-past, answer-none, answer-refused, answer-exact}
 use Rattle.wire.specs.Wire.{over}
-use Rattle.theory.specs.Image.{bookOf}
+use Rattle.wire.proofs.Laws.{take-over, drop-over}
+use Rattle.logic.specs.Value.{number}
+use Rattle.logic.specs.Formula.{readingOf}
+use Rattle.logic.proofs.Bools.{false-of}
+use Rattle.theory.specs.Image.{atomCount, bookOf}
 use Rattle.program.specs.Image.{imageLength, imageOf}
+use Rattle.program.proofs.Lengths.{length-imageOf}
 use Rattle.translation.specs.Flat.{flat}
-use Rattle.translation.specs.Outcome.{sizeOf, ruleTotal, translateRows, translated}
+use Rattle.translation.specs.Extension.{extend}
+use Rattle.translation.specs.Outcome.{sizeOf, ruleTotal, translateRows, translated, extendRows, extended}
 
 module _ (t out : List ℕ) where
   -- B is over its limit: row 14 refuses.
@@ -37,3 +45,79 @@ module _ (t out : List ℕ) where
 pub translate-exact : (t : List ℕ) (room : ℕ) → Exact (translateRows t room) (ruleTotal t) (answer (translateRows t room) (ruleTotal t))
 unfolding translateRows
 translate-exact t room = answer-exact (translateRows t room) (ruleTotal t) refl
+
+-- ---- the outcome of a translation, as bytes
+
+module _ (t out : List ℕ) (all : none (translateRows t (length out)) ≡ true) where
+  -- Accepted, it begins with the image, and the rest is unchanged.
+  pub translated-image : take (imageLength (ruleTotal t)) (translated t out) ≡ imageOf (flat (bookOf t))
+  unfolding translated
+  translated-image = rw (all, ← length-imageOf (flat (bookOf t))) (take-over (imageOf (flat (bookOf t))) out)
+
+  pub translated-rest : drop (imageLength (ruleTotal t)) (translated t out) ≡ drop (imageLength (ruleTotal t)) out
+  unfolding translated
+  translated-rest = rw (all, ← length-imageOf (flat (bookOf t))) (drop-over (imageOf (flat (bookOf t))) out)
+
+-- Refused, it is unchanged.
+pub translated-refused : (t out : List ℕ) → none (translateRows t (length out)) ≡ false → translated t out ≡ out
+unfolding translated
+translated-refused t out h = rw h
+
+-- ---- extension
+
+-- Where the answer refuses, some row applies.
+none-refused : (rs : List Row) (x : ℕ) → (answer rs x .number ≡ 0 → ⊥) → none rs ≡ false
+none-refused rs x h = false-of (none rs) (λ n. h (ap (λ (a : Answer). a .number) (answer-none rs x n)))
+
+-- Rows of which none applies leave it to those behind whether one does.
+none-past : (rs qs : List Row) → none rs ≡ true → none (rs ++ qs) ≡ none qs
+none-past [] qs h = refl
+none-past (r ∷ rs) qs h = let n = none-cons r rs h in rw (n .0) (none-past rs qs (n .1))
+
+module _ (t reading out : List ℕ) where
+  abbrev rows : List Row
+  rows = extendRows t reading (length out)
+
+  -- B is over its limit: row 14 refuses.
+  pub extend-over : mostB < sizeOf t → (answer rows (sizeOf t) ≡ refused 14 (sizeOf t)) × (extended t reading out ≡ out)
+  unfolding extendRows extended
+  extend-over h = rw (lt-ltb mostB (sizeOf t) h) (refl, refl)
+
+  -- The reading is refused by row 9 or 10.
+  pub extend-reading : sizeOf t ≤ mostB → {a : Answer} → a ≡ answer (readingRows (atomCount t) reading) 0 → (a .number ≡ 0 → ⊥)
+      → (a ≡ answer rows (sizeOf t)) × (extended t reading out ≡ out)
+  unfolding extendRows extended
+  extend-reading h {a} e refuses =
+      let rs = readingRows (atomCount t) reading in
+      let qs : List Row = row8 (sizeOf t) (length out) ∷ [] in
+      let all : a ≡ answer (rs ++ qs) (sizeOf t) = answer-refused rs qs 0 (sizeOf t) e refuses in
+      let some : none (rs ++ qs) ≡ false = none-refused (rs ++ qs) (sizeOf t) (λ z. refuses (ap (λ (b : Answer). b .number) all ∙ z)) in
+      rw (le-ltb mostB (sizeOf t) h) (all, rw some)
+
+  -- The room is too short: row 8 refuses.
+  pub extend-short : sizeOf t ≤ mostB → none (readingRows (atomCount t) reading) ≡ true → length out < sizeOf t
+      → (answer rows (sizeOf t) ≡ refused 8 (sizeOf t)) × (extended t reading out ≡ out)
+  unfolding extendRows extended
+  extend-short h fine l =
+      let rs = readingRows (atomCount t) reading in
+      let qs : List Row = row8 (sizeOf t) (length out) ∷ [] in
+      rw (le-ltb mostB (sizeOf t) h, answer-past rs qs (sizeOf t) fine, none-past rs qs fine, lt-ltb (length out) (sizeOf t) l) (refl, refl)
+
+  -- No row applies.
+  pub extend-all : sizeOf t ≤ mostB → none (readingRows (atomCount t) reading) ≡ true → sizeOf t ≤ length out
+      → (answer rows (sizeOf t) ≡ accepted (sizeOf t)) × (extended t reading out ≡ over (map number (extend (bookOf t) (readingOf reading))) out)
+  unfolding extendRows extended
+  extend-all h fine l =
+      let rs = readingRows (atomCount t) reading in
+      let qs : List Row = row8 (sizeOf t) (length out) ∷ [] in
+      rw (le-ltb mostB (sizeOf t) h, answer-past rs qs (sizeOf t) fine, none-past rs qs fine, le-ltb (length out) (sizeOf t) l) (refl, refl)
+
+-- The answer of an extension is exact.
+pub extend-exact : (t reading : List ℕ) (room : ℕ) → Exact (extendRows t reading room) (sizeOf t) (answer (extendRows t reading room) (sizeOf t))
+unfolding extendRows argumentRows
+extend-exact t reading room = answer-exact (extendRows t reading room) (sizeOf t) refl
+
+-- Refused, the output is unchanged.
+pub extended-refused : (t reading out : List ℕ) → none (extendRows t reading (length out)) ≡ false → extended t reading out ≡ out
+unfolding extended
+extended-refused t reading out h = rw h

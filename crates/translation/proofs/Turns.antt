@@ -19,7 +19,7 @@ use Rattle.theory.specs.Image.{atomCount, nodeCount, rootCount, nodeSection, ro
 use Rattle.program.specs.Rule.{RuleOf, Rule}
 use Rattle.translation.specs.Table.{Slot, rows, labelCount}
 use Rattle.translation.specs.Flat.{Term, simplify, mapRule, instances, termAt, nodeRules, term, fact, facts, rulesFrom, labelTotal, flat}
-use Rattle.translation.specs.Turns.{termsFrom, nodesRules, nextTo, termsTo, rulesTo, factsTo, kindRules, rowsTo}
+use Rattle.translation.specs.Turns.{termsFrom, nodesRules, nextTo, termsTo, rulesTo, factsTo, kindRules, rowsTo, labelBytes, labelsTo}
 use Rattle.translation.specs.Shapes.{rowCount, shapeRule, kindShape}
 use Rattle.translation.specs.OneRule.{filled}
 use Rattle.translation.proofs.Shapes.{shapes-rows}
@@ -118,6 +118,15 @@ module _ (terms : List ℕ) (kind : ℕ) where
   pub rowsTo-all : kind < 7 → rowsTo terms kind (rowCount kind) ≡ kindRules terms kind
   unfolding rowsTo
   rowsTo-all h = ap (instances (filled terms)) (shapes-rows kind h)
+
+module _ (values s : List ℕ) where
+  pub labelsTo-none : labelsTo values s 0 ≡ []
+  unfolding labelsTo
+  labelsTo-none = refl
+
+  pub labelsTo-more : (k : ℕ) → labelsTo values s (k + 1) ≡ labelsTo values s k ++ labelBytes values s k
+  unfolding labelsTo
+  labelsTo-more k = rw add-one
 
 -- Of lists that grow by one part at each turn, the last holds each with its part.
 pub grown : {S : Type 0} (whole part : ℕ → List S) → ((k : ℕ) → whole (k + 1) ≡ whole k ++ part k) → (k n : ℕ) → k < n

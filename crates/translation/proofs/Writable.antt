@@ -1,128 +1,183 @@
--- The flat program of a well-formed book can be written: each rule has at most three literals, and each names an atom or a label that is numbered. By induction on the nodes.
-use mathlib.Core.Path.{_≡_, refl}
-use mathlib.Core.Bool.{Bool, true, _&&_}
-use mathlib.Core.List.{List, [], _∷_, _++_}
-use Prim.Native.Nat.{ℕ, zero, suc, _+_, _≤_}
+-- The flat program of an accepted image passes 22 and 26: its rules have at most three literals, and its names are below B. By the rows of the kinds and induction. Assumes nothing.
+use mathlib.Core.Path.{_≡_, refl, sym, ap, _∙_}
+use mathlib.Core.Bool.{Bool, true, false, not, _&&_}
+use mathlib.Core.List.{List, [], _∷_, _++_, map}
+use Prim.Native.Nat.{ℕ, zero, suc, _+_, _*_, _≤_, _<_}
+use native.Mathlib.Decide.{le-ind}
+use native.Mathlib.Numerals.{add-one}
 use native.Mathlib.Omega.{arith}
 use lib.Dec.{leb, ltb}
-use lib.ListN.{length, length-append}
-use borrow.Author.Tests.{lt-ltb, ltb-true, le-leb, leb-true}
+use lib.ListN.{length, length-append, length-map}
+use lib.Seq.{take-all}
+use borrow.Author.Tests.{lt-ltb, le-ltb, le-leb, leb-true}
+use Rattle.refusal.specs.Limits.{mostAtoms, mostB, mostRules}
+use Rattle.refusal.specs.Table.{none}
 use Rattle.refusal.proofs.Table.{cases}
 use Rattle.logic.proofs.Bools.{&&-split, &&-join}
-use Rattle.theory.specs.Book.{Kind, falseKind, trueKind, atomKind, notKind, andKind, orKind, impliesKind, Node, Book, leftLimit, rightLimit, fits, allFit, WellFormed}
+use Rattle.theory.specs.Book.{Kind, falseKind, trueKind, atomKind, notKind, andKind, orKind, impliesKind}
+use Rattle.theory.specs.Image.{atomCount, nodeCount, rootCount, nodeSection, rootSection, nodeIn, rootIn, bookOf}
+use Rattle.theory.specs.Rows.{theoryRows}
 use Rattle.program.specs.Rule.{RuleOf, Rule}
-use Rattle.program.specs.Image.{literals}
-use Rattle.program.specs.Writable.{allBelow, ruleWritable, rulesWritable}
-use Rattle.translation.specs.Table.{Slot, rows, labelCount}
-use Rattle.translation.specs.Flat.{Term, constant, name, names, removes, reduce, simplify, fill, mapRule, instances, termAt, nodeRules, termOf, term, fact, facts, rulesFrom, labelTotal, flat}
+use Rattle.program.specs.Image.{literals, programOf, imageOf}
+use Rattle.program.specs.Rows.{outside, programRows}
+use Rattle.program.specs.Writable.{allBelow, ruleWritable, rulesWritable, writable}
+use Rattle.program.proofs.Reading.{imageOf-accepted, programOf-imageOf}
+use Rattle.translation.specs.Table.{Slot, x, y, L, M, rows, labelCount}
+use Rattle.translation.specs.Flat.{Term, constant, name, names, removes, reduce, simplify, fill, fact, mapRule, instances, termAt, nodeRules, flat}
+use Rattle.translation.specs.OneRule.{code}
+use Rattle.translation.specs.Outcome.{sizeOf, ruleTotal}
+use Rattle.translation.specs.Turns.{Nodes, nextTo, termsTo, rulesTo, factsTo, Numbered}
+use Rattle.translation.proofs.OneRule.{Below, length-names}
+use Rattle.translation.proofs.Turns.{nextTo-more, rulesTo-none, rulesTo-more, factsTo-none, factsTo-more, length-termsTo, flat-size, flat-rules}
+use Rattle.translation.proofs.NodeTerms.{below-le, next-le, terms-below}
+use Rattle.translation.proofs.Sections.{nodes-accepted, ruleTotal-le}
 
--- A term is a constant or names something below B.
-abbrev below : (B : ℕ) → Term → Bool
-below B (constant b) = true
-below B (name a) = ltb a B
+-- ---- lists of atoms, and of rules
 
-abbrev eachBelow : (B : ℕ) → List Term → Bool
-eachBelow B [] = true
-eachBelow B (t ∷ ts) = below B t && eachBelow B ts
-
--- A rule over terms has at most three, all such.
-abbrev fine : (B : ℕ) → RuleOf Term → Bool
-fine B r =
-    leb (length (r .heads) + (length (r .positives) + length (r .negatives))) 3
-    && (eachBelow B (r .heads) && (eachBelow B (r .positives) && eachBelow B (r .negatives)))
-
-length-names : (ts : List Term) → length (names ts) ≤ length ts
-length-names [] = omega arith
-length-names (constant b ∷ ts) = omega (arith, length-names ts)
-length-names (name a ∷ ts) = omega (arith, length-names ts)
-
-names-below : (B : ℕ) (ts : List Term) → eachBelow B ts ≡ true → allBelow B (names ts) ≡ true
-names-below B [] h = refl
-names-below B (constant b ∷ ts) h = names-below B ts h
-names-below B (name a ∷ ts) h = let q = &&-split (ltb a B) (eachBelow B ts) h in &&-join (q .0) (names-below B ts (q .1))
-
-allBelow-append : (B : ℕ) (xs ys : List ℕ) → allBelow B xs ≡ true → allBelow B ys ≡ true → allBelow B (xs ++ ys) ≡ true
-allBelow-append B [] ys h k = k
-allBelow-append B (a ∷ xs) ys h k = let q = &&-split (ltb a B) (allBelow B xs) h in &&-join (q .0) (allBelow-append B xs ys (q .1) k)
+allBelow-append : (B : ℕ) (l m : List ℕ) → allBelow B l ≡ true → allBelow B m ≡ true → allBelow B (l ++ m) ≡ true
+allBelow-append B [] m h k = k
+allBelow-append B (a ∷ l) m h k = let s = &&-split (ltb a B) (allBelow B l) h in &&-join (s .0) (allBelow-append B l m (s .1) k)
 
 rulesWritable-append : (B : ℕ) (rs qs : List Rule) → rulesWritable B rs ≡ true → rulesWritable B qs ≡ true → rulesWritable B (rs ++ qs) ≡ true
 rulesWritable-append B [] qs h k = k
-rulesWritable-append B (r ∷ rs) qs h k = let q = &&-split (ruleWritable B r) (rulesWritable B rs) h in &&-join (q .0) (rulesWritable-append B rs qs (q .1) k)
+rulesWritable-append B (r ∷ rs) qs h k =
+    let s = &&-split (ruleWritable B r) (rulesWritable B rs) h in
+    &&-join (s .0) (rulesWritable-append B rs qs (s .1) k)
 
-reduce-writable : (B : ℕ) (r : RuleOf Term) → fine B r ≡ true → ruleWritable B (reduce r) ≡ true
-reduce-writable B r h =
-    let few = &&-split (leb (length (r .heads) + (length (r .positives) + length (r .negatives))) 3) (eachBelow B (r .heads) && (eachBelow B (r .positives) && eachBelow B (r .negatives))) h in
-    let three : length (r .heads) + (length (r .positives) + length (r .negatives)) ≤ 3 = leb-true _ _ (few .0) in
-    let heads = &&-split (eachBelow B (r .heads)) (eachBelow B (r .positives) && eachBelow B (r .negatives)) (few .1) in
-    let body = &&-split (eachBelow B (r .positives)) (eachBelow B (r .negatives)) (heads .1) in
-    &&-join
-    (le-leb (length (literals (reduce r))) 3 (rw (length-append, length-append)
-    (omega (arith, length-names (r .heads), length-names (r .positives), length-names (r .negatives)))))
-    (allBelow-append B (names (r .heads)) (names (r .positives) ++ names (r .negatives)) (names-below B (r .heads) (heads .0))
-    (allBelow-append B (names (r .positives)) (names (r .negatives)) (names-below B (r .positives) (body .0)) (names-below B (r .negatives) (body .1))))
+-- ---- one rule
 
-simplify-writable : (B : ℕ) (r : RuleOf Term) → fine B r ≡ true → rulesWritable B (simplify r) ≡ true
-simplify-writable B r h = cases (removes r) (λ t. rw t) (λ f. rw f (&&-join (reduce-writable B r h) refl))
+-- Each term of the list that is a name is below B.
+abbrev AllBelow : ℕ → List Term → Type 0
+AllBelow B [] = Unit {0}
+AllBelow B (t ∷ ts) = Below B t × AllBelow B ts
 
-allFine : (B : ℕ) (f : Slot → Term) → List (RuleOf Slot) → Bool
-allFine B f [] = true
-allFine B f (r ∷ rs) = fine B (mapRule f r) && allFine B f rs
+names-below : (B : ℕ) (ts : List Term) → AllBelow B ts → allBelow B (names ts) ≡ true
+names-below B [] h = refl
+names-below B (constant b ∷ ts) h = names-below B ts (h .1)
+names-below B (name a ∷ ts) h = &&-join (lt-ltb a B (h .0)) (names-below B ts (h .1))
 
-instances-writable : (B : ℕ) (f : Slot → Term) (rs : List (RuleOf Slot)) → allFine B f rs ≡ true → rulesWritable B (instances f rs) ≡ true
-unfolding allFine
-instances-writable B f [] h = refl
-instances-writable B f (r ∷ rs) h =
-    let q = &&-split (fine B (mapRule f r)) (allFine B f rs) h in
-    rulesWritable-append B (simplify (mapRule f r)) (instances f rs) (simplify-writable B (mapRule f r) (q .0)) (instances-writable B f rs (q .1))
+simplify-writable : (B : ℕ) (r : RuleOf Term) → length (r .heads) + (length (r .positives) + length (r .negatives)) ≤ 3
+    → AllBelow B (r .heads) → AllBelow B (r .positives) → AllBelow B (r .negatives) → rulesWritable B (simplify r) ≡ true
+simplify-writable B r few h p n =
+    let short : length (literals (reduce r)) ≤ 3
+    = simp length-append (omega (arith, length-names (r .heads), length-names (r .positives), length-names (r .negatives))) in
+    let below = allBelow-append B (names (r .heads)) _ (names-below B (r .heads) h)
+    (allBelow-append B (names (r .positives)) (names (r .negatives)) (names-below B (r .positives) p) (names-below B (r .negatives) n)) in
+    cases (removes r) (λ t. rw t) (λ f. rw f (&&-join (&&-join (le-leb _ _ short) below) refl))
 
--- The rows of a kind are fine where its operands' terms are and its labels are below B.
-kind-fine : (B : ℕ) (left right : Term) (next : ℕ) (k : Kind) → below B left ≡ true → below B right ≡ true → next + labelCount k ≤ B
-    → allFine B (fill left right next) (rows k) ≡ true
-unfolding allFine
-kind-fine B left right next falseKind l r h = refl
-kind-fine B left right next trueKind l r h = refl
-kind-fine B left right next atomKind l r h = refl
-kind-fine B left right next notKind l r h = rw (l, lt-ltb next B (omega arith))
-kind-fine B left right next andKind l r h = rw (l, r, lt-ltb next B (omega arith))
-kind-fine B left right next orKind l r h = rw (l, r, lt-ltb next B (omega arith))
-kind-fine B left right next impliesKind l r h = rw (l, r, lt-ltb next B (omega arith), lt-ltb (suc next) B (omega arith))
+-- ---- the rows of a kind
 
-below-at : (B : ℕ) (ts : List Term) (k : ℕ) → eachBelow B ts ≡ true → below B (termAt ts k) ≡ true
-below-at B [] k h = refl
-below-at B (t ∷ ts) zero h = &&-split (below B t) (eachBelow B ts) h .0
-below-at B (t ∷ ts) (suc k) h = below-at B ts k (&&-split (below B t) (eachBelow B ts) h .1)
+map-below : (B : ℕ) (f : Slot → Term) → ((s : Slot) → Below B (f s)) → (l : List Slot) → AllBelow B (map f l)
+map-below B f h [] = tt
+map-below B f h (s ∷ l) = (h s, map-below B f h l)
 
-eachBelow-more : (B : ℕ) (ts : List Term) (t : Term) → eachBelow B ts ≡ true → below B t ≡ true → eachBelow B (ts ++ (t ∷ [])) ≡ true
-eachBelow-more B [] t h k = &&-join k refl
-eachBelow-more B (u ∷ ts) t h k = let q = &&-split (below B u) (eachBelow B ts) h in &&-join (q .0) (eachBelow-more B ts t (q .1) k)
+-- Each row has at most three literals.
+abbrev rowsFew : List (RuleOf Slot) → Bool
+rowsFew [] = true
+rowsFew (r ∷ rs) = leb (length (r .heads) + (length (r .positives) + length (r .negatives))) 3 && rowsFew rs
 
-term-below : (A B i next : ℕ) (k : Kind) (a : ℕ) → ltb a (leftLimit A i k) ≡ true → A ≤ B → next + labelCount k ≤ B → below B (termOf next k a) ≡ true
-term-below A B i next falseKind a l h m = refl
-term-below A B i next trueKind a l h m = refl
-term-below A B i next atomKind a l h m = lt-ltb a B (omega (arith, ltb-true a A l))
-term-below A B i next notKind a l h m = lt-ltb next B (omega arith)
-term-below A B i next andKind a l h m = lt-ltb next B (omega arith)
-term-below A B i next orKind a l h m = lt-ltb next B (omega arith)
-term-below A B i next impliesKind a l h m = lt-ltb next B (omega arith)
+instances-writable : (B : ℕ) (f : Slot → Term) → ((s : Slot) → Below B (f s)) → (rs : List (RuleOf Slot)) → rowsFew rs ≡ true → rulesWritable B (instances f rs) ≡ true
+instances-writable B f h [] few = refl
+instances-writable B f h (r ∷ rs) few =
+    let s = &&-split (leb (length (r .heads) + (length (r .positives) + length (r .negatives))) 3) (rowsFew rs) few in
+    rulesWritable-append B (simplify (mapRule f r)) (instances f rs)
+    (simplify-writable B (mapRule f r) (simp length-map (leb-true _ _ (s .0))) (map-below B f h (r .heads)) (map-below B f h (r .positives)) (map-below B f h (r .negatives)))
+    (instances-writable B f h rs (s .1))
 
-facts-writable : (B : ℕ) (ts : List Term) (roots : List ℕ) → eachBelow B ts ≡ true → rulesWritable B (facts ts roots) ≡ true
-facts-writable B ts [] h = refl
-facts-writable B ts (k ∷ ks) h =
-    rulesWritable-append B (simplify (fact (termAt ts k))) (facts ts ks)
-    (simplify-writable B (fact (termAt ts k)) (rw (below-at B ts k h))) (facts-writable B ts ks h)
+module _ (B next : ℕ) (left right : Term) (l : Below B left) (r : Below B right) where
+  -- Only implies has M.
+  abbrev withoutM : Slot → Term
+  withoutM x = left
+  withoutM y = right
+  withoutM L = name next
+  withoutM M = left
 
-rules-writable : (A B : ℕ) → A ≤ B → (roots : List ℕ) (ts : List Term) (i next : ℕ) (ns : List Node) → eachBelow B ts ≡ true → next + labelTotal ns ≤ B
-    → allFit A i ns ≡ true → rulesWritable B (rulesFrom roots ts next ns) ≡ true
-rules-writable A B le roots ts i next [] h m ok = facts-writable B ts roots h
-rules-writable A B le roots ts i next (n ∷ ns) h m ok =
-    let fit = &&-split (fits A i n) (allFit A (suc i) ns) ok in
-    let left-fits = &&-split (ltb (n .left) (leftLimit A i (n .kind))) (ltb (n .right) (rightLimit i (n .kind))) (fit .0) .0 in
-    let now : next + labelCount (n .kind) ≤ B = omega arith in
-    rulesWritable-append B (nodeRules ts next n) (rulesFrom roots (ts ++ (term next n ∷ [])) (next + labelCount (n .kind)) ns)
-    (instances-writable B (fill (termAt ts (n .left)) (termAt ts (n .right)) next) (rows (n .kind))
-    (kind-fine B (termAt ts (n .left)) (termAt ts (n .right)) next (n .kind) (below-at B ts (n .left) h) (below-at B ts (n .right) h) now))
-    (rules-writable A B le roots (ts ++ (term next n ∷ [])) (suc i) (next + labelCount (n .kind)) ns
-    (eachBelow-more B ts (term next n) h (term-below A B i next (n .kind) (n .left) left-fits le now)) (omega arith) (fit .1))
+  withoutM-below : next < B → (s : Slot) → Below B (withoutM s)
+  withoutM-below h x = l
+  withoutM-below h y = r
+  withoutM-below h L = h
+  withoutM-below h M = l
 
-pub flat-writable : (b : Book) → WellFormed b → rulesWritable (flat b .size) (flat b .rules) ≡ true
-flat-writable b ok = rules-writable (b .atoms) (flat b .size) (omega arith) (b .roots) [] 0 (b .atoms) (b .nodes) refl (omega arith) (ok .nodes-fit)
+  fill-below : suc next < B → (s : Slot) → Below B (fill left right next s)
+  fill-below h x = l
+  fill-below h y = r
+  fill-below h L = omega arith
+  fill-below h M = h
+
+  kind-writable : (k : Kind) → next + labelCount k ≤ B → rulesWritable B (instances (fill left right next) (rows k)) ≡ true
+  kind-writable falseKind h = refl
+  kind-writable trueKind h = refl
+  kind-writable atomKind h = refl
+  kind-writable notKind h = instances-writable B withoutM (withoutM-below (omega arith)) (rows notKind) refl
+  kind-writable andKind h = instances-writable B withoutM (withoutM-below (omega arith)) (rows andKind) refl
+  kind-writable orKind h = instances-writable B withoutM (withoutM-below (omega arith)) (rows orKind) refl
+  kind-writable impliesKind h = instances-writable B (fill left right next) (fill-below (omega arith)) (rows impliesKind) refl
+
+-- ---- the whole program
+
+module _ (A : ℕ) (s : List ℕ) (N : ℕ) (ok : Nodes A s N) where
+  next-up : (k n : ℕ) → k ≤ n → nextTo A s k ≤ nextTo A s n
+  next-up k n h = le-ind (λ m. nextTo A s k ≤ nextTo A s m) (omega arith) (λ m l e. rw (← add-one, nextTo-more) (omega arith)) n h
+
+  rulesTo-writable : (k : ℕ) → k ≤ N → rulesWritable (nextTo A s N) (rulesTo A s k) ≡ true
+  rulesTo-writable zero h = rw rulesTo-none
+  rulesTo-writable (suc k) h =
+      let n = nodeIn s k in
+      let B = nextTo A s N in
+      let term-in : (j : ℕ) → Below B (termAt (termsTo A s k) j)
+      = λ j. below-le (nextTo A s k) B (next-up k N (omega arith)) (termAt (termsTo A s k) j) (terms-below A s N ok k (omega arith) j) in
+      let room : nextTo A s k + labelCount (n .kind) ≤ B = rw nextTo-more at (next-up (k + 1) N (omega arith)) in
+      rw (← add-one, rulesTo-more)
+      (rulesWritable-append B (rulesTo A s k) _ (rulesTo-writable k (omega arith))
+      (kind-writable B (nextTo A s k) _ _ (term-in (n .left)) (term-in (n .right)) (n .kind) room))
+
+  factsTo-writable : (roots : List ℕ) (i : ℕ) → rulesWritable (nextTo A s N) (factsTo (termAt (termsTo A s N)) roots i) ≡ true
+  factsTo-writable roots zero = rw factsTo-none
+  factsTo-writable roots (suc i) =
+      let B = nextTo A s N in
+      rw (← add-one, factsTo-more)
+      (rulesWritable-append B (factsTo (termAt (termsTo A s N)) roots i) _ (factsTo-writable roots i)
+      (simplify-writable B (fact (termAt (termsTo A s N) (rootIn roots i))) (omega arith) (terms-below A s N ok N (omega arith) (rootIn roots i), tt) tt tt))
+
+module _ (t : List ℕ) (ok : none (theoryRows t) ≡ true) where
+  abbrev terms : List Term
+  terms = termsTo (atomCount t) (nodeSection t) (nodeCount t)
+
+  -- A scratch with the terms' numbers.
+  numbered : Numbered t (map code terms)
+  numbered = take-all (nodeCount t) (map code terms) (rw (length-map, length-termsTo) (omega arith))
+
+  -- B is at least A and within its limit, so row 14 never applies; K is within its limit.
+  pub size-bounds : (atomCount t ≤ sizeOf t) × (sizeOf t ≤ mostB)
+  size-bounds =
+      let s = nodeSection t in
+      let nodes = nodes-accepted t ok in
+      rw (flat-size t) (omega (arith, next-le (atomCount t) s (nodeCount t) nodes (nodeCount t), nodes .few, nodes .few-atoms))
+
+  pub rules-bound : ruleTotal t ≤ mostRules
+  rules-bound = ruleTotal-le t ok (map code terms) numbered
+
+  rules-writable : rulesWritable (sizeOf t) (flat (bookOf t) .rules) ≡ true
+  rules-writable =
+      let s = nodeSection t in
+      let nodes = nodes-accepted t ok in
+      rw (flat-size t, flat-rules t (termAt terms) (λ i h. refl))
+      (rulesWritable-append _ (rulesTo (atomCount t) s (nodeCount t)) _
+      (rulesTo-writable (atomCount t) s (nodeCount t) nodes (nodeCount t) (omega arith))
+      (factsTo-writable (atomCount t) s (nodeCount t) nodes (rootSection t) (rootCount t)))
+
+  within : outside (bookOf t .atoms) (sizeOf t) (ruleTotal t) ≡ false
+  unfolding bookOf
+  within =
+      let few = nodes-accepted t ok .few-atoms in
+      rw (le-ltb mostAtoms (atomCount t) few, le-ltb (sizeOf t) (atomCount t) (size-bounds .0), le-ltb mostB (sizeOf t) (size-bounds .1), le-ltb mostRules (ruleTotal t) rules-bound)
+
+  pub flat-writable : writable (flat (bookOf t)) ≡ true
+  flat-writable = rw within rules-writable
+
+  -- What is written passes the program's check and is read back as the flat program.
+  pub translated-accepted : none (programRows (imageOf (flat (bookOf t)))) ≡ true
+  translated-accepted = imageOf-accepted (flat (bookOf t)) flat-writable
+
+  pub translated-read : programOf (imageOf (flat (bookOf t))) ≡ flat (bookOf t)
+  translated-read = programOf-imageOf (flat (bookOf t)) flat-writable

@@ -1,11 +1,10 @@
 -- What translation and extension answer, and what their output holds then.
-use mathlib.Core.Bool.{cond}
 use mathlib.Core.List.{List, [], _∷_, _++_, map}
 use Prim.Native.Nat.{ℕ}
 use lib.ListN.{length}
-use Rattle.refusal.specs.Table.{Row, none}
+use Rattle.refusal.specs.Table.{Row}
 use Rattle.refusal.specs.Rows.{row8, row14, readingRows}
-use Rattle.wire.specs.Wire.{over}
+use Rattle.wire.specs.Outcome.{written}
 use Rattle.logic.specs.Value.{number}
 use Rattle.logic.specs.Formula.{readingOf}
 use Rattle.theory.specs.Image.{atomCount, bookOf}
@@ -26,7 +25,7 @@ translateRows t room = row14 (sizeOf t) ∷ row8 (imageLength (ruleTotal t)) roo
 
 -- What the output holds then: the flat program's image over its start, or what it held where a row applies.
 unfoldable pub translated : (t out : List ℕ) → List ℕ
-translated t out = cond (none (translateRows t (length out))) (over (imageOf (flat (bookOf t))) out) out
+translated t out = written (translateRows t (length out)) (imageOf (flat (bookOf t))) out
 
 -- The rows of an extension of a reading, in the order tested.
 unfoldable pub extendRows : (t reading : List ℕ) → (room : ℕ) → List Row
@@ -34,4 +33,4 @@ extendRows t reading room = row14 (sizeOf t) ∷ (readingRows (atomCount t) read
 
 -- What the output holds then: the extension's bytes over its start, or what it held where a row applies.
 unfoldable pub extended : (t reading out : List ℕ) → List ℕ
-extended t reading out = cond (none (extendRows t reading (length out))) (over (map number (extend (bookOf t) (readingOf reading))) out) out
+extended t reading out = written (extendRows t reading (length out)) (map number (extend (bookOf t) (readingOf reading))) out

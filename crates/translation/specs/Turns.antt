@@ -6,11 +6,12 @@ use Prim.Native.Nat.{ℕ, zero, suc, _+_, _*_, _≤_, _<_}
 use lib.ListN.{length, getD, take}
 use Rattle.refusal.specs.Limits.{mostAtoms, mostNodes, mostRoots}
 use Rattle.wire.specs.Sequence.{upTo}
+use Rattle.logic.specs.Value.{number, ofByte, negation}
 use Rattle.theory.specs.Book.{Node}
 use Rattle.theory.specs.Image.{atomCount, nodeCount, nodeSection, kindOf, nodeIn, nodeKeeps, rootIn}
 use Rattle.program.specs.Rule.{Rule}
 use Rattle.translation.specs.Table.{rows, labelCount}
-use Rattle.translation.specs.Shapes.{shapeRule, kindShape}
+use Rattle.translation.specs.Shapes.{labelsOf, shapeRule, kindShape}
 use Rattle.translation.specs.OneRule.{code, decode, filled}
 use Rattle.translation.specs.Flat.{Term, term, instances, nodeRules, fact, simplify, labelTotal}
 
@@ -73,3 +74,13 @@ rowsTo terms kind j = instances (filled terms) (upTo (λ i. shapeRule (kindShape
 -- The numbers of all terms of a theory image stand in a scratch.
 abbrev pub Numbered : (t scratch : List ℕ) → Type 0
 Numbered t scratch = take (nodeCount t) scratch ≡ map code (termsTo (atomCount t) (nodeSection t) (nodeCount t))
+
+-- The bytes of the labels of node k, where the nodes' values stand in a scratch: L holds the node's value, and M that of not its right side.
+abbrev pub labelBytes : (values : List ℕ) → (s : List ℕ) → (k : ℕ) → List ℕ
+labelBytes values s k =
+    take (labelsOf (getD s (k * 6) 0)) (getD values k 0 ∷ number (negation (ofByte (getD values (nodeIn s k .right) 0))) ∷ [])
+
+-- Those of the labels of the first k nodes.
+unfoldable pub labelsTo : (values : List ℕ) → (s : List ℕ) → (k : ℕ) → List ℕ
+labelsTo values s zero = []
+labelsTo values s (suc k) = labelsTo values s k ++ labelBytes values s k

@@ -1,20 +1,25 @@
 //! The translation of a rule book into flat rules.
+use logic::Value;
 use refusal::Answer;
 ghost use mathlib.Core.Path.{_≡_};
-ghost use mathlib.Core.List.{[], map};
+ghost use mathlib.Core.List.{[], _∷_, map};
 ghost use mathlib.Core.Bool.{true, cond};
 ghost use Prim.Native.Nat.{ℕ, _+_, _*_, _≤_, _<_};
 ghost use lib.ListN.{length, getD, take};
 ghost use Rattle.refusal.specs.Table.{none, answer};
+ghost use Rattle.refusal.specs.Rows.{readingRows};
 ghost use Rattle.wire.specs.Wire.{over};
-ghost use Rattle.theory.specs.Image.{nodeIn, kindOf, bookOf};
+ghost use Rattle.logic.specs.Value.{number, ofByte, negation};
+ghost use Rattle.logic.specs.Formula.{readingOf};
+ghost use Rattle.theory.specs.Image.{atomCount, nodeIn, kindOf, bookOf};
 ghost use Rattle.theory.specs.Rows.{theoryRows};
 ghost use Rattle.program.specs.Image.{rulesBytes, imageLength, imageOf};
 ghost use Rattle.translation.specs.Flat.{termOf, fact, mapRule, flat};
+ghost use Rattle.translation.specs.Extension.{extend as extension};
 ghost use Rattle.translation.specs.Shapes.{shapes, kinds, shapeRule};
 ghost use Rattle.translation.specs.OneRule.{code, decode, filled, added, addedTo, madeOf, madeBytes};
-ghost use Rattle.translation.specs.Turns.{Nodes, Roots, nextTo, termsTo, rulesTo, factsTo, scratchTerm, slotTerms, kindRules, Numbered};
-ghost use Rattle.translation.specs.Outcome.{sizeOf, ruleTotal, translateRows, translated};
+ghost use Rattle.translation.specs.Turns.{Nodes, Roots, nextTo, termsTo, rulesTo, factsTo, scratchTerm, slotTerms, kindRules, Numbered, labelsTo};
+ghost use Rattle.translation.specs.Outcome.{sizeOf, ruleTotal, translateRows, translated, extendRows, extended};
 
 // What may stand in a slot: the terms x of left and y of right, the node's label L, and M, the label for the negation of right.
 const X: usize = 0;
@@ -474,4 +479,72 @@ pub fn translate(theory: &[u8], out: &mut [u8]) -> Answer
     }
     write(theory, out, &terms, all, rules);
     refusal::accept(rules)
+}
+
+// Writes the labels of a node over the start of `out`: L holds the node's value, and M, where there is one, that of not its right side.
+fn put_labels(out: &mut [u8], labels: usize, value: u8, right: u8) -> usize
+    requires { ⌜ (labels ≤ 2) × (labels ≤ length (now out)) ⌝ }
+    ensures { λ r. ⌜ r ≡ labels ⌝ }
+    ensures { λ _. ⌜ now (out .exit) ≡ over (take labels (value ∷ number (negation (ofByte right)) ∷ [])) (now (out .entry)) ⌝ }
+{
+    let bytes = [value, Value::of_byte(right).not().byte()];
+    wire::put(out, &bytes[..labels])
+}
+
+// Writes the labels of all nodes over the start of `out`, each node's into the unwritten rest; `values` holds the nodes' values.
+fn write_labels(out: &mut [u8], nodes: &[u8], count: usize, values: &[u8; 1024]) -> usize
+    requires { ⌜ (count ≤ 1024) × (count * 6 ≤ length (now nodes)) × ((k : ℕ) → k < count → (getD (now nodes) (k * 6) 0 < 7) × (nodeIn (now nodes) k .right < 1024)) ⌝ }
+    requires { ⌜ length (labelsTo (now values) (now nodes) count) ≤ length (now out) ⌝ }
+    ensures { λ r. ⌜ r ≡ length (labelsTo (now (values .entry)) (now (nodes .entry)) count) ⌝ }
+    ensures { λ _. ⌜ now (out .exit) ≡ over (labelsTo (now (values .entry)) (now (nodes .entry)) count) (now (out .entry)) ⌝ }
+{
+    let index = KINDS;
+    let mut at = 0;
+    let mut k = 0;
+    while k < count {
+        let kind = kind_at(nodes, k);
+        let right = right_at(nodes, k);
+        at += put_labels(&mut out[at..], index[kind][2], values[k], values[right]);
+        k += 1;
+    }
+    at
+}
+
+// Writes the extension of a reading over the start of `out`: the reading, and then each label's value.
+fn write_extension(theory: &[u8], reading: &[u8], out: &mut [u8])
+    requires { ⌜ (none (theoryRows (now theory)) ≡ true) × (none (readingRows (atomCount (now theory)) (now reading)) ≡ true) × (sizeOf (now theory) ≤ length (now out)) ⌝ }
+    ensures { λ _. ⌜ now (out .exit) ≡ over (map number (extension (bookOf (now (theory .entry))) (readingOf (now (reading .entry))))) (now (out .entry)) ⌝ }
+{
+    let mut scratch = [0u8; 1024];
+    theory::values(theory, reading, &mut scratch);
+    let at = wire::put(out, reading);
+    write_labels(
+        &mut out[at..],
+        &theory[16..],
+        theory::nodes(theory),
+        &scratch,
+    );
+}
+
+// The extension of a reading to the labels of a checked theory image: rows 14, 9, 10 and 8 first, and B bytes where none applies.
+pub fn extend(theory: &[u8], reading: &[u8], out: &mut [u8]) -> Answer
+    requires { ⌜ none (theoryRows (now theory)) ≡ true ⌝ }
+    ensures { λ r. ⌜ r ≡ answer (extendRows (now (theory .entry)) (now (reading .entry)) (length (now (out .entry)))) (sizeOf (now (theory .entry))) ⌝ }
+    ensures { λ _. ⌜ now (out .exit) ≡ extended (now (theory .entry)) (now (reading .entry)) (now (out .entry)) ⌝ }
+{
+    let atoms = theory::atoms(theory);
+    let nodes = theory::nodes(theory);
+    let all = size(&theory[16..], nodes, atoms);
+    if refusal::MOST_B < all {
+        return refusal::refuse(14, all);
+    }
+    let answer = refusal::reading(reading, atoms);
+    if answer.number != 0 {
+        return answer;
+    }
+    if out.len() < all {
+        return refusal::refuse(8, all);
+    }
+    write_extension(theory, reading, out);
+    refusal::accept(all)
 }

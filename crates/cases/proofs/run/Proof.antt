@@ -1,4 +1,5 @@
 -- `run` is safe and ends: each turn passes a line and its line feed. Assumes nothing.
+use mathlib.Core.Path.{_≡_}
 use Prim.Native.Nat.{_+_, _-_, _≤_}
 use lib.ListN.{length}
 use borrow.Author.Needs.{needs}
@@ -6,10 +7,16 @@ use Rattle.cases.proofs.run.Statement.{statement}
 use Rattle.cases.proofs.run.Tie as tie
 
 abbrev Inv-loop : tie.InvT-loop
-Inv-loop script number₀ at₀ number at = (at ≤ length script + 1) × (number ≤ at + 1)
+Inv-loop script program₀ extension₀ kept₀ number₀ at₀ program extension kept number at = (at ≤ length script + 1) × (number ≤ at + 1) × (65536 ≡ length program) × (4096 ≡ length extension)
 
 abbrev μ-loop : tie.MeasureT-loop
-μ-loop script number₀ at₀ number at = length script + 1 - at
+μ-loop script program₀ extension₀ kept₀ number₀ at₀ program extension kept number at = length script + 1 - at
+
+large-buffer-requires : tie.Need-large-buffer-requires Inv-loop μ-loop
+large-buffer-requires c κs = search needs
+
+buffer-requires : tie.Need-buffer-requires Inv-loop μ-loop
+buffer-requires c κs = search needs
 
 loop-holds : tie.Need-loop-holds Inv-loop μ-loop
 loop-holds c = search needs
@@ -34,6 +41,12 @@ part-run-line-start c = search needs
 
 part-run-line-end : tie.Need-part-run-line-end Inv-loop μ-loop
 part-run-line-end c = search needs
+
+slice-aggregate-run-line : tie.Need-slice-aggregate-run-line Inv-loop μ-loop
+slice-aggregate-run-line c = search needs
+
+slice-aggregate-run-line-2 : tie.Need-slice-aggregate-run-line-2 Inv-loop μ-loop
+slice-aggregate-run-line-2 c = search needs
 
 run-line-requires : tie.Need-run-line-requires Inv-loop μ-loop
 run-line-requires c κs = search needs
@@ -62,6 +75,8 @@ run-spec =
     (tie.spec
     Inv-loop
     μ-loop
+    large-buffer-requires
+    buffer-requires
     loop-holds
     sub-rest
     part-rest-start
@@ -70,6 +85,8 @@ run-spec =
     sub-run-line
     part-run-line-start
     part-run-line-end
+    slice-aggregate-run-line
+    slice-aggregate-run-line-2
     run-line-requires
     add-number
     add-at

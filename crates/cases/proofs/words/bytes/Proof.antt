@@ -7,10 +7,10 @@ use Rattle.cases.proofs.words.bytes.Statement.{statement}
 use Rattle.cases.proofs.words.bytes.Tie as tie
 
 abbrev Inv-loop : tie.InvT-loop
-Inv-loop text dest₀ count₀ at₀ dest count at = (length dest ≡ length dest₀) × (at ≤ length text + 1)
+Inv-loop text program extension dest₀ count₀ at₀ dest count at = (length dest ≡ length dest₀) × (at ≤ length text + 1)
 
 abbrev μ-loop : tie.MeasureT-loop
-μ-loop text dest₀ count₀ at₀ dest count at = length text + 1 - at
+μ-loop text program extension dest₀ count₀ at₀ dest count at = length text + 1 - at
 
 loop-holds : tie.Need-loop-holds Inv-loop μ-loop
 loop-holds c = search needs
@@ -27,17 +27,17 @@ part-rest-end c = search needs
 find-requires : tie.Need-find-requires Inv-loop μ-loop
 find-requires c κs = search needs
 
-sub-repeat : tie.Need-sub-repeat Inv-loop μ-loop
-sub-repeat c = search needs
+sub-put : tie.Need-sub-put Inv-loop μ-loop
+sub-put c = search needs
 
-part-repeat-start : tie.Need-part-repeat-start Inv-loop μ-loop
-part-repeat-start c = search needs
+part-put-start : tie.Need-part-put-start Inv-loop μ-loop
+part-put-start c = search needs
 
-part-repeat-end : tie.Need-part-repeat-end Inv-loop μ-loop
-part-repeat-end c = search needs
+part-put-end : tie.Need-part-put-end Inv-loop μ-loop
+part-put-end c = search needs
 
-repeat-requires : tie.Need-repeat-requires Inv-loop μ-loop
-repeat-requires c κs = search needs
+put-requires : tie.Need-put-requires Inv-loop μ-loop
+put-requires c κs = search needs
 
 add-at : tie.Need-add-at Inv-loop μ-loop
 add-at c = search needs
@@ -68,10 +68,10 @@ bytes-spec =
     part-rest-start
     part-rest-end
     find-requires
-    sub-repeat
-    part-repeat-start
-    part-repeat-end
-    repeat-requires
+    sub-put
+    part-put-start
+    part-put-end
+    put-requires
     add-at
     add-at-2
     loop-less
