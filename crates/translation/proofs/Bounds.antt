@@ -1,8 +1,6 @@
 -- How many rules there are: a row leaves one at most, a kind has at most six rows, and a root leaves one fact at most. By induction. Assumes nothing.
-use mathlib.Core.Path.{_≡_, refl}
-use mathlib.Core.Bool.{Bool, true, false}
-use mathlib.Core.List.{List, [], _∷_, _++_}
-use Prim.Native.Nat.{ℕ, zero, suc, _+_, _*_, _≤_}
+use mathlib.Core.List.{List, [], _∷_}
+use Prim.Native.Nat.{ℕ, zero, suc, _*_, _≤_}
 use native.Mathlib.Numerals.{add-one}
 use native.Mathlib.Omega.{arith}
 use lib.ListN.{length, length-append}
@@ -11,7 +9,7 @@ use Rattle.theory.specs.Book.{Kind, falseKind, trueKind, atomKind, notKind, and
 use Rattle.theory.specs.Image.{nodeIn, rootIn}
 use Rattle.program.specs.Rule.{RuleOf}
 use Rattle.translation.specs.Table.{Slot, rows}
-use Rattle.translation.specs.Flat.{Term, removes, simplify, fill, fact, mapRule, instances, termAt, nodeRules}
+use Rattle.translation.specs.Flat.{Term, removes, simplify, fill, fact, mapRule, instances, termAt}
 use Rattle.translation.specs.Turns.{nextTo, termsTo, rulesTo, factsTo}
 use Rattle.translation.proofs.Turns.{rulesTo-none, rulesTo-more, factsTo-none, factsTo-more}
 

@@ -16,7 +16,6 @@ use Rattle.refusal.proofs.Rows.{none-argumentRows}
 use Rattle.wire.specs.Wire.{over}
 use Rattle.wire.specs.Sequence.{upTo}
 use Rattle.wire.proofs.Sequence.{upTo-none, upTo-more}
-use Rattle.logic.specs.declared.Value.{Value}
 use Rattle.logic.specs.declared.Value.the-variants.{Neither}
 use Rattle.logic.specs.Value.{number, ofByte, negation}
 use Rattle.logic.specs.Formula.{Formula, falsum, Reading, readingOf, value}

@@ -1,19 +1,19 @@
 -- A node's operands stand before it, so the terms that the code has numbered by then give its rules. By the rows of the kinds and induction on the nodes. Assumes nothing.
-use mathlib.Core.Path.{_≡_, refl, sym, ap, ap₂, _∙_, fun-ext}
+use mathlib.Core.Path.{_≡_, refl, sym, ap, _∙_, fun-ext}
 use mathlib.Core.Logic.{_⊎_, inl, inr, ⊎-elim}
-use mathlib.Core.Bool.{Bool, true, false, _&&_}
+use mathlib.Core.Bool.{true, false}
 use mathlib.Core.List.{List, [], _∷_, _++_, map}
 use Prim.Native.Nat.{ℕ, zero, suc, _+_, _*_, _≤_, _<_}
 use native.Mathlib.Decide.{le-ind}
 use native.Mathlib.Numerals.{add-one}
 use native.Mathlib.Omega.{arith}
 use lib.Dec.{eqb, ltb}
-use lib.ListN.{getD, length, take, length-append, length-map, List·getD-append, List·getD-map}
+use lib.ListN.{getD, length, take, length-map, List·getD-append, List·getD-map}
 use lib.Seq.{getD-take}
 use borrow.Author.Tests.{ltb-true}
 use Rattle.logic.proofs.Bools.{&&-split}
-use Rattle.theory.specs.Book.{Kind, falseKind, trueKind, atomKind, notKind, andKind, orKind, impliesKind, Node, leftLimit, rightLimit, fits}
-use Rattle.theory.specs.Image.{kindOf, nodeIn, nodeKeeps}
+use Rattle.theory.specs.Book.{Kind, falseKind, trueKind, atomKind, notKind, andKind, orKind, impliesKind, leftLimit, rightLimit}
+use Rattle.theory.specs.Image.{nodeIn}
 use Rattle.translation.specs.Table.{Slot, x, y, L, M, rows, labelCount}
 use Rattle.translation.specs.Flat.{Term, constant, name, fill, instances, termAt, nodeRules, termOf, term}
 use Rattle.translation.specs.Shapes.{labelsOf}

@@ -1,9 +1,8 @@
 -- Literals that are added one by one leave what simplifying the whole rule leaves: by induction on their number. Assumes nothing.
-use mathlib.Core.Path.{_≡_, refl, sym, ap, ap₂, _∙_}
+use mathlib.Core.Path.{_≡_, refl, ap, _∙_}
 use mathlib.Core.Bool.{Bool, true, false, not, _||_, or-true, or-false, or-assoc}
 use mathlib.Core.List.{List, [], _∷_, _++_, map, append-assoc, append-nil}
 use Prim.Native.Nat.{ℕ, zero, suc, _+_, _-_, _≤_, _<_}
-use native.Mathlib.Nat.{not-suc-le-zero}
 use native.Mathlib.Numerals.{add-one}
 use native.Mathlib.Omega.{arith}
 use lib.Dec.{eqb}
@@ -16,7 +15,6 @@ use Rattle.program.specs.Rule.{RuleOf}
 use Rattle.program.specs.Image.{ruleBytes, rulesBytes}
 use Rattle.translation.specs.declared.Literals.{Literals}
 use Rattle.translation.specs.declared.Made.{Made}
-use Rattle.translation.specs.Table.{Slot}
 use Rattle.translation.specs.Flat.{Term, constant, name, has, names, mapRule, removes, simplify, fact}
 use Rattle.translation.specs.Shapes.{slotOf, slotNumber, slotsFrom, shapeRule}
 use Rattle.translation.specs.OneRule.{code, decode, filled, added, addedTo, firstThree, madeOf, madeCount, madeBytes}

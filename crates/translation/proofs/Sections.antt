@@ -1,22 +1,19 @@
 -- The sections of an image that the check accepts keep what the loops over them ask. From what each row leaves. Assumes nothing.
-use mathlib.Core.Path.{_≡_, ap, sym, _∙_}
+use mathlib.Core.Path.{_≡_, ap, _∙_}
 use mathlib.Core.Bool.{true}
-use mathlib.Core.List.{List, _++_, map, append-assoc}
-use Prim.Native.Nat.{ℕ, _+_, _*_, _≤_, _<_}
+use mathlib.Core.List.{List, _++_}
+use Prim.Native.Nat.{ℕ, _+_, _≤_}
 use native.Mathlib.Omega.{arith}
-use lib.ListN.{length, take, drop, length-drop, length-append}
-use lib.Seq.{drop-append-seam, drop-append-add, drop-drop, length-take-le}
+use lib.ListN.{length, length-drop, length-append}
 use Rattle.refusal.specs.Table.{none}
-use Rattle.wire.specs.Wire.{over}
 use Rattle.theory.specs.Image.{atomCount, nodeCount, rootCount, nodeSection, rootSection, rootIn, bookOf}
 use Rattle.theory.specs.Rows.{theoryRows}
 use Rattle.program.specs.Image.{rulesBytes}
 use Rattle.program.proofs.Lengths.{rulesBytes-append}
-use Rattle.theory.proofs.Accepted.{Accepted, accepted}
+use Rattle.theory.proofs.Accepted.{accepted}
 use Rattle.translation.specs.Flat.{flat}
-use Rattle.translation.specs.OneRule.{code}
 use Rattle.translation.specs.Outcome.{ruleTotal}
-use Rattle.translation.specs.Turns.{Nodes, Roots, termsTo, rulesTo, factsTo, scratchTerm, Numbered}
+use Rattle.translation.specs.Turns.{Nodes, Roots, rulesTo, factsTo, scratchTerm, Numbered}
 use Rattle.translation.proofs.Turns.{flat-rules}
 use Rattle.translation.proofs.NodeTerms.{scratch-term}
 use Rattle.translation.proofs.Bounds.{length-rulesTo, length-factsTo}

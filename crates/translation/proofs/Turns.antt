@@ -1,23 +1,18 @@
 -- Laws of what the loops have after so many turns: one turn more, and after the last turn the flat program. By induction on the nodes. Assumes nothing.
 use mathlib.Core.Path.{_≡_, refl, sym, ap, ap₂, _∙_}
-use mathlib.Core.Bool.{Bool, true, _&&_}
 use mathlib.Core.List.{List, [], _∷_, _++_, append-assoc, append-nil}
-use Prim.Native.Nat.{ℕ, zero, suc, _+_, _*_, _≤_, _<_}
+use Prim.Native.Nat.{ℕ, zero, suc, _+_, _≤_, _<_}
 use native.Mathlib.Decide.{le-ind}
 use native.Mathlib.Nat.{add-zero, add-assoc}
 use native.Mathlib.Numerals.{add-one}
 use native.Mathlib.Omega.{arith}
-use lib.Dec.{eqb, ltb}
-use lib.ListN.{getD, length, length-append, List·getD-append}
-use borrow.Author.Tests.{ltb-true}
-use Rattle.logic.proofs.Bools.{&&-split}
-use Rattle.wire.specs.Wire.{u16At}
+use lib.ListN.{length, length-append}
 use Rattle.wire.specs.Sequence.{upTo}
-use Rattle.wire.proofs.Sequence.{upTo-none, upTo-more, length-upTo}
-use Rattle.theory.specs.Book.{Kind, falseKind, trueKind, atomKind, notKind, andKind, orKind, impliesKind, Node, leftLimit, rightLimit, fits}
-use Rattle.theory.specs.Image.{atomCount, nodeCount, rootCount, nodeSection, rootSection, kindOf, nodeIn, nodeKeeps, rootIn, bookOf}
-use Rattle.program.specs.Rule.{RuleOf, Rule}
-use Rattle.translation.specs.Table.{Slot, rows, labelCount}
+use Rattle.wire.proofs.Sequence.{upTo-none, upTo-more}
+use Rattle.theory.specs.Book.{Node}
+use Rattle.theory.specs.Image.{atomCount, nodeCount, rootCount, nodeSection, rootSection, nodeIn, rootIn, bookOf}
+use Rattle.program.specs.Rule.{RuleOf}
+use Rattle.translation.specs.Table.{Slot, labelCount}
 use Rattle.translation.specs.Flat.{Term, simplify, mapRule, instances, termAt, nodeRules, term, fact, facts, rulesFrom, labelTotal, flat}
 use Rattle.translation.specs.Turns.{termsFrom, nodesRules, nextTo, termsTo, rulesTo, factsTo, kindRules, rowsTo, labelBytes, labelsTo}
 use Rattle.translation.specs.Shapes.{rowCount, shapeRule, kindShape}

@@ -1,8 +1,8 @@
 -- The flat program of an accepted image passes 22 and 26: its rules have at most three literals, and its names are below B. By the rows of the kinds and induction. Assumes nothing.
-use mathlib.Core.Path.{_≡_, refl, sym, ap, _∙_}
-use mathlib.Core.Bool.{Bool, true, false, not, _&&_}
+use mathlib.Core.Path.{_≡_, refl}
+use mathlib.Core.Bool.{Bool, true, false, _&&_}
 use mathlib.Core.List.{List, [], _∷_, _++_, map}
-use Prim.Native.Nat.{ℕ, zero, suc, _+_, _*_, _≤_, _<_}
+use Prim.Native.Nat.{ℕ, zero, suc, _+_, _≤_, _<_}
 use native.Mathlib.Decide.{le-ind}
 use native.Mathlib.Numerals.{add-one}
 use native.Mathlib.Omega.{arith}
@@ -23,7 +23,7 @@ use Rattle.program.specs.Rows.{outside, programRows}
 use Rattle.program.specs.Writable.{allBelow, ruleWritable, rulesWritable, writable}
 use Rattle.program.proofs.Reading.{imageOf-accepted, programOf-imageOf}
 use Rattle.translation.specs.Table.{Slot, x, y, L, M, rows, labelCount}
-use Rattle.translation.specs.Flat.{Term, constant, name, names, removes, reduce, simplify, fill, fact, mapRule, instances, termAt, nodeRules, flat}
+use Rattle.translation.specs.Flat.{Term, constant, name, names, removes, reduce, simplify, fill, fact, mapRule, instances, termAt, flat}
 use Rattle.translation.specs.OneRule.{code}
 use Rattle.translation.specs.Outcome.{sizeOf, ruleTotal}
 use Rattle.translation.specs.Turns.{Nodes, nextTo, termsTo, rulesTo, factsTo, Numbered}

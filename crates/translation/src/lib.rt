@@ -407,12 +407,12 @@ fn write_facts(out: &mut [u8], roots: &[u8], count: usize, terms: &[u16; 1024]) 
     ensures { λ _. ⌜ now (out .exit) ≡ over (rulesBytes (factsTo (scratchTerm (now (terms .entry))) (now (roots .entry)) count)) (now (out .entry)) ⌝ }
 {
     let mut at = 0;
-    let mut i = 0;
-    while i < count {
-        let root = wire::u16_at(roots, i * 2);
-        let made = fact_of(wide_term(terms[root]));
-        at += put_rule(&mut out[at..], made);
-        i += 1;
+    let mut done = 0;
+    while done < count {
+        let root = wire::u16_at(roots, done * 2);
+        let fact = fact_of(wide_term(terms[root]));
+        at += put_rule(&mut out[at..], fact);
+        done += 1;
     }
     at
 }

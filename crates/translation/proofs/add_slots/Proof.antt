@@ -1,17 +1,14 @@
-use mathlib.Core.Path.{_≡_, refl, sym, ap, _∙_}
-use mathlib.Core.List.{List, _++_}
-use Prim.Native.Nat.{ℕ, _+_, _-_, _*_, _≤_, _<_}
+-- `add_slots` adds the terms of some slots: before each turn those of the slots passed are added. Assumes nothing.
+use mathlib.Core.Path.{_≡_, refl, sym, _∙_}
+use Prim.Native.Nat.{ℕ, _+_, _-_, _≤_, _<_}
 use native.Mathlib.Omega.{arith}
-use lib.ListN.{length, getD}
+use lib.ListN.{getD}
 use denote.Ref.{now}
 use borrow.Author.Needs.{needs}
 use Rattle.translation.specs.OneRule.{added, addedTo}
 use Rattle.translation.proofs.OneRule.{addedTo-more, used-added}
 use Rattle.translation.proofs.add_slots.Statement.{statement}
 use Rattle.translation.proofs.add_slots.Tie as tie
-use Rattle.translation.proofs.add_slots.Reads as reads
-use Rattle.translation.proofs.add_slots.Lts as lts
-use Rattle.translation.proofs.add.Reads as add-reads
 
 abbrev Inv-loop : tie.InvT-loop
 Inv-loop removing shape terms start count all₀ j₀ all j =
@@ -20,24 +17,19 @@ Inv-loop removing shape terms start count all₀ j₀ all j =
 abbrev μ-loop : tie.MeasureT-loop
 μ-loop removing shape terms start count all₀ j₀ all j = count - j
 
--- src/lib.rt:104:5
 loop-holds : tie.Need-loop-holds Inv-loop μ-loop
 unfolding addedTo
 loop-holds c = (refl, search needs, search needs)
 
--- src/lib.rt:105:26
 add-slot : tie.Need-add-slot Inv-loop μ-loop
 add-slot c = search needs
 
--- src/lib.rt:105:20
 mul-slot : tie.Need-mul-slot Inv-loop μ-loop
 mul-slot c = search needs
 
--- src/lib.rt:105:20
 element-copy-out-slot : tie.Need-element-copy-out-slot Inv-loop μ-loop
 element-copy-out-slot c = search needs
 
--- src/lib.rt:106:34
 -- the slot names one of the four terms
 named : (c : tie.In-loop Inv-loop μ-loop) → getD (now (c .before .before .args .shape)) (c .before .before .args .start + c .before .loop .j) 0 < 4
 named c = c .before .before .pre .2 _ (omega arith)
@@ -45,23 +37,18 @@ named c = c .before .before .pre .2 _ (omega arith)
 mul-add : tie.Need-mul-add Inv-loop μ-loop
 mul-add c = omega (arith, named (c .before))
 
--- src/lib.rt:106:34
 element-copy-out-add : tie.Need-element-copy-out-add Inv-loop μ-loop
 element-copy-out-add c = named (c .before)
 
--- src/lib.rt:106:9
 add-requires : tie.Need-add-requires Inv-loop μ-loop
 add-requires c κs = search needs
 
--- src/lib.rt:107:9
 add-j : tie.Need-add-j Inv-loop μ-loop
 add-j c = search needs
 
--- src/lib.rt:104:5
 loop-less : tie.Need-loop-less Inv-loop μ-loop
 loop-less c = search needs
 
--- src/lib.rt:104:5
 loop-again : tie.Need-loop-again Inv-loop μ-loop
 loop-again c =
     let loop = c .before .before .before .before in
@@ -70,7 +57,6 @@ loop-again c =
     let e : c .add .result ≡ added (loop .loop .all) (start .args .removing) term = c .add .ensures in
     (e ∙ rw (loop .loop .inv .0) (sym (addedTo-more _ _ _ _)), rw e (omega (arith, used-added (loop .loop .all) (start .args .removing) term)), search needs)
 
--- src/lib.rt:98:1
 returns : tie.Need-returns Inv-loop μ-loop
 returns c = let e : c .before .loop .j ≡ c .before .before .args .count = omega arith in rw e at (c .before .loop .inv .0)
 

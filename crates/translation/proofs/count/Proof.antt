@@ -1,16 +1,11 @@
 -- `count` gives K: the nodes' rules and the roots' facts are all rules of the program. Assumes nothing.
-use mathlib.Core.Path.{_≡_, refl, sym, ap, _∙_}
-use mathlib.Core.List.{List, [], _∷_, _++_, map, map-append}
-use Prim.Native.Nat.{ℕ, zero, suc, _+_, _-_, _*_, _≤_, _<_}
-use native.Mathlib.Numerals.{add-one}
+use mathlib.Core.Path.{_≡_, sym}
+use Prim.Native.Nat.{_+_}
 use native.Mathlib.Omega.{arith}
-use lib.ListN.{length, getD, take, drop, length-append}
 use denote.Ref.{now}
-use Rattle.theory.specs.Image.{atomCount, nodeCount, rootCount, nodeSection, rootSection}
 use Rattle.wire.proofs.Laws.{part-from}
 use Rattle.theory.proofs.Accepted.{accepted}
 use Rattle.translation.specs.Outcome.{ruleTotal}
-use Rattle.translation.specs.Turns.{rulesTo, factsTo, scratchTerm}
 use Rattle.translation.proofs.Sections.{nodes-accepted, roots-within, ruleTotal-parts, ruleTotal-le}
 use borrow.Author.Needs.{needs}
 use Rattle.translation.proofs.count.Statement.{statement}

@@ -1,15 +1,13 @@
 -- `count_facts` counts the roots' facts: before each turn it has counted those of the roots passed. Assumes nothing.
-use mathlib.Core.Path.{_≡_, refl, sym, ap, _∙_}
-use mathlib.Core.List.{List, [], _∷_, _++_, map, map-append}
-use Prim.Native.Nat.{ℕ, zero, suc, _+_, _-_, _*_, _≤_, _<_}
-use native.Mathlib.Numerals.{add-one}
+use mathlib.Core.Path.{_≡_, ap, _∙_}
+use Prim.Native.Nat.{_-_, _≤_}
 use native.Mathlib.Omega.{arith}
-use lib.ListN.{length, getD, take, drop, length-append}
+use lib.ListN.{length, getD, length-append}
 use denote.Ref.{now}
 use borrow.Author.Needs.{needs}
 use Rattle.theory.specs.Image.{rootIn}
 use Rattle.translation.specs.Flat.{fact, simplify}
-use Rattle.translation.specs.OneRule.{decode, madeOf, madeCount}
+use Rattle.translation.specs.OneRule.{decode, madeCount}
 use Rattle.translation.specs.Turns.{factsTo, scratchTerm}
 use Rattle.translation.proofs.OneRule.{madeCount-madeOf}
 use Rattle.translation.proofs.Turns.{factsTo-none, factsTo-more}

@@ -1,10 +1,8 @@
 -- `count_rules` counts the rules of all nodes: before each turn it has counted those of the nodes passed. Assumes nothing.
 use mathlib.Core.Path.{_≡_, refl, sym, ap, _∙_}
-use mathlib.Core.List.{List, [], _∷_, _++_, map, map-append}
-use Prim.Native.Nat.{ℕ, zero, suc, _+_, _-_, _*_, _≤_, _<_}
-use native.Mathlib.Numerals.{add-one}
+use Prim.Native.Nat.{_-_, _*_, _≤_, _<_}
 use native.Mathlib.Omega.{arith}
-use lib.ListN.{length, getD, take, drop, length-append}
+use lib.ListN.{length, length-append}
 use denote.Ref.{now}
 use borrow.Author.Needs.{needs}
 use Rattle.theory.specs.Image.{kindOf, nodeIn}
@@ -12,7 +10,7 @@ use Rattle.translation.specs.Table.{labelCount}
 use Rattle.translation.specs.Flat.{nodeRules}
 use Rattle.translation.specs.OneRule.{filled}
 use Rattle.translation.specs.Shapes.{labelsOf}
-use Rattle.translation.specs.Turns.{nextTo, termsTo, rulesTo, kindRules}
+use Rattle.translation.specs.Turns.{nextTo, termsTo, rulesTo}
 use Rattle.translation.proofs.Turns.{nextTo-none, nextTo-more, rulesTo-none, rulesTo-more}
 use Rattle.translation.proofs.NodeTerms.{node-known, operands-small, turn-rules}
 use Rattle.translation.proofs.Bounds.{kind-rules}

@@ -1,10 +1,5 @@
 -- `extend` tests B, the reading and the room before it writes a byte: at each return the answer and the output are those of the rows. Assumes nothing.
-use mathlib.Core.Path.{_≡_, refl, sym, ap, _∙_}
-use mathlib.Core.List.{List, [], _∷_, _++_, map, map-append}
-use Prim.Native.Nat.{ℕ, zero, suc, _+_, _-_, _*_, _≤_, _<_}
-use native.Mathlib.Numerals.{add-one}
-use native.Mathlib.Omega.{arith}
-use lib.ListN.{length, getD, take, drop, length-append}
+use mathlib.Core.Path.{_≡_, sym, ap, _∙_}
 use denote.Ref.{now}
 use mathlib.Core.Bool.{true, false}
 use Rattle.refusal.specs.Table.{refused, accepted, answer, none}

@@ -1,38 +1,28 @@
-use mathlib.Core.Path.{_≡_, _∙_, ap, sym}
+-- `make` makes the rule of a shape: its heads, then its positives, then its negatives are added, each part with the constant that removes the rule there. Assumes nothing.
+use mathlib.Core.Path.{_≡_, _∙_}
 use mathlib.Core.Bool.{true, false, _||_}
-use mathlib.Core.List.{List, _++_}
-use Prim.Native.Nat.{ℕ, _+_, _-_, _≤_, _<_}
+use mathlib.Core.List.{_++_}
 use native.Mathlib.Omega.{arith}
-use lib.ListN.{length, getD, length-append}
+use lib.ListN.{length-append}
 use denote.Ref.{now}
 use borrow.Author.Needs.{needs}
-use Rattle.translation.specs.declared.Literals.{Literals}
 use Rattle.translation.specs.Flat.{has, names, removes}
-use Rattle.translation.specs.OneRule.{addedTo}
 use Rattle.translation.proofs.OneRule.{state, ruleIn, heads-few, positives-few, heads-added, positives-added, negatives-added, finish-parts}
 use Rattle.translation.proofs.make.Statement.{statement}
 use Rattle.translation.proofs.make.Tie as tie
-use Rattle.translation.proofs.make.Reads as reads
-use Rattle.translation.proofs.make.Lts as lts
-use Rattle.translation.proofs.add_slots.Reads as add-slots-reads
 
--- src/lib.rt:117:17
 element-copy-out-heads : tie.Need-element-copy-out-heads
 element-copy-out-heads c = search needs
 
--- src/lib.rt:118:21
 element-copy-out-positives : tie.Need-element-copy-out-positives
 element-copy-out-positives c = search needs
 
--- src/lib.rt:124:9
 add-slots-requires : tie.Need-add-slots-requires
 add-slots-requires c κs = search needs
 
--- src/lib.rt:125:47
 add-add-slots : tie.Need-add-add-slots
 add-add-slots c = search needs
 
--- src/lib.rt:125:9
 -- the literals after each part
 heads-are : (c : tie.After-add-slots) → let start = c .before .before .before in let r = ruleIn (now (start .args .shape)) (now (start .args .terms)) in
     c .add-slots .result ≡ state (has true (r .heads)) (names (r .heads))
@@ -52,19 +42,15 @@ add-slots-requires-2 c κs =
     let s = now (start .args .shape) in
     (rw (heads-are c) (omega (arith, heads-few s (now (start .args .terms)) (start .pre .1) (start .pre .0))), omega arith, start .pre .1)
 
--- src/lib.rt:126:46
 add-add-slots-2 : tie.Need-add-add-slots-2
 add-add-slots-2 c = search needs
 
--- src/lib.rt:126:46
 add-add-slots-3 : tie.Need-add-add-slots-3
 add-add-slots-3 c = search needs
 
--- src/lib.rt:126:69
 element-copy-out-add-slots : tie.Need-element-copy-out-add-slots
 element-copy-out-add-slots c = search needs
 
--- src/lib.rt:126:9
 add-slots-requires-3 : tie.Need-add-slots-requires-3
 add-slots-requires-3 c κs =
     let start = c .before .before .before .before .before in
@@ -72,19 +58,16 @@ add-slots-requires-3 c κs =
     let t = now (start .args .terms) in
     (rw (positives-are (c .before), length-append) (omega (arith, heads-few s t (start .pre .1) (start .pre .0), positives-few s t (start .pre .1) (start .pre .0))), omega arith, start .pre .1)
 
--- src/lib.rt:131:20
 sub-t12 : tie.Need-sub-t12
 sub-t12 c =
     let b = c .before .before .before .before .before in
     rw (heads-are (b .before), positives-are b, length-append) (omega arith)
 
--- src/lib.rt:132:20
 sub-t19 : tie.Need-sub-t19
 sub-t19 c =
     let d = c .before .before .before .before .before in
     rw (positives-are (d .before .before), negatives-are d) (simp length-append (omega arith))
 
--- src/lib.rt:113:1
 returns : tie.Need-returns
 returns c =
     let d = c .before .before .before .before .before in

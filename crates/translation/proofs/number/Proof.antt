@@ -1,16 +1,16 @@
 -- `number` numbers the terms: before each turn the scratch begins with the numbers of the terms of the nodes passed. Assumes nothing.
-use mathlib.Core.Path.{_≡_, refl, sym, ap, _∙_}
-use mathlib.Core.List.{List, [], _∷_, _++_, map, map-append}
-use Prim.Native.Nat.{ℕ, zero, suc, _+_, _-_, _*_, _≤_, _<_}
+use mathlib.Core.Path.{_≡_, refl, sym, _∙_}
+use mathlib.Core.List.{map, map-append}
+use Prim.Native.Nat.{_-_, _≤_, _<_}
 use native.Mathlib.Numerals.{add-one}
 use native.Mathlib.Omega.{arith}
-use lib.ListN.{length, getD, take, drop}
+use lib.ListN.{length, take}
 use denote.Ref.{now}
 use borrow.Author.Needs.{needs}
 use lib.Seq.{take-suc-set}
-use Rattle.theory.specs.Image.{kindOf, nodeIn}
+use Rattle.theory.specs.Image.{nodeIn}
 use Rattle.translation.specs.Table.{labelCount}
-use Rattle.translation.specs.Flat.{termOf, term}
+use Rattle.translation.specs.Flat.{term}
 use Rattle.translation.specs.OneRule.{code}
 use Rattle.translation.specs.Shapes.{labelsOf}
 use Rattle.translation.specs.Turns.{nextTo, termsTo}

@@ -1,16 +1,7 @@
 -- `put_rule` writes the ten bytes of a rule that stays, and nothing of one that does not. Assumes nothing.
-use mathlib.Core.Path.{_≡_, refl, sym, ap, _∙_}
-use mathlib.Core.List.{List, [], _∷_, _++_, map, map-append}
-use Prim.Native.Nat.{ℕ, zero, suc, _+_, _-_, _*_, _≤_, _<_}
-use native.Mathlib.Numerals.{add-one}
-use native.Mathlib.Omega.{arith}
-use lib.ListN.{length, getD, take, drop, length-append}
-use denote.Ref.{now}
-use mathlib.Core.Bool.{Bool, true, false, not, cond}
+use mathlib.Core.Path.{_≡_, refl}
+use mathlib.Core.Bool.{true, false}
 use borrow.Author.Tests.{not-true, not-false}
-use Rattle.wire.specs.Wire.{over}
-use Rattle.translation.specs.declared.Made.{Made}
-use Rattle.translation.specs.OneRule.{madeBytes}
 use borrow.Author.Needs.{needs}
 use Rattle.translation.proofs.put_rule.Statement.{statement}
 use Rattle.translation.proofs.put_rule.Tie as tie

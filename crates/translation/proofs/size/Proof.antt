@@ -1,13 +1,10 @@
 -- `size` gives B: before each turn `next` is the label behind those of the nodes passed. Assumes nothing.
-use mathlib.Core.Path.{_≡_, refl, sym, ap, _∙_}
-use mathlib.Core.List.{List, [], _∷_, _++_, map, map-append}
-use Prim.Native.Nat.{ℕ, zero, suc, _+_, _-_, _*_, _≤_, _<_}
-use native.Mathlib.Numerals.{add-one}
+use mathlib.Core.Path.{_≡_, sym}
+use Prim.Native.Nat.{_-_, _≤_, _<_}
 use native.Mathlib.Omega.{arith}
-use lib.ListN.{length, getD, take, drop}
 use denote.Ref.{now}
 use borrow.Author.Needs.{needs}
-use Rattle.theory.specs.Image.{kindOf, nodeIn}
+use Rattle.theory.specs.Image.{nodeIn}
 use Rattle.translation.specs.Table.{labelCount}
 use Rattle.translation.specs.Shapes.{labelsOf}
 use Rattle.translation.specs.Turns.{nextTo}

@@ -1,11 +1,4 @@
 -- `slot_terms` gives the terms of x, y, L and M: what the scratch has at left and right, and the next two labels. Assumes nothing.
-use mathlib.Core.Path.{_≡_, refl, sym, ap, _∙_}
-use mathlib.Core.List.{List, [], _∷_, _++_, map, map-append}
-use Prim.Native.Nat.{ℕ, zero, suc, _+_, _-_, _*_, _≤_, _<_}
-use native.Mathlib.Numerals.{add-one}
-use native.Mathlib.Omega.{arith}
-use lib.ListN.{length, getD, take, drop}
-use denote.Ref.{now}
 use borrow.Author.Needs.{needs}
 use Rattle.translation.proofs.slot_terms.Statement.{statement}
 use Rattle.translation.proofs.slot_terms.Tie as tie

@@ -1,7 +1,6 @@
 -- `term_of` gives the number of a node's term: every kind but false, true and atom has its label L. Assumes nothing.
 use mathlib.Core.Path.{_≡_, refl, sym, ap}
-use mathlib.Core.Bool.{cond}
-use Prim.Native.Nat.{ℕ, zero, suc, _<_}
+use Prim.Native.Nat.{ℕ, zero, suc}
 use native.Mathlib.Omega.{arith}
 use Rattle.theory.specs.Image.{kindOf}
 use Rattle.theory.proofs.Images.{kindOf-last}

@@ -1,18 +1,11 @@
 -- `translate` tests B and the room before it writes a byte: at each return the answer and the output are those of the rows. Assumes nothing.
-use mathlib.Core.Path.{_≡_, refl, sym, ap, _∙_}
-use mathlib.Core.List.{List, [], _∷_, _++_, map, map-append}
-use Prim.Native.Nat.{ℕ, zero, suc, _+_, _-_, _*_, _≤_, _<_}
-use native.Mathlib.Numerals.{add-one}
-use native.Mathlib.Omega.{arith}
-use lib.ListN.{length, getD, take, drop, length-append}
+use mathlib.Core.Path.{_≡_, sym, ap, _∙_}
 use denote.Ref.{now}
-use Rattle.wire.specs.Wire.{over}
 use Rattle.wire.proofs.Laws.{part-from}
-use Rattle.theory.specs.Image.{atomCount, nodeCount, nodeSection, bookOf}
 use Rattle.refusal.specs.Table.{refused, accepted}
 use Rattle.theory.proofs.Accepted.{accepted as image-accepted}
 use Rattle.program.specs.Image.{imageLength}
-use Rattle.translation.specs.Outcome.{sizeOf, ruleTotal, translateRows, translated}
+use Rattle.translation.specs.Outcome.{sizeOf, ruleTotal}
 use Rattle.translation.specs.Turns.{Numbered}
 use Rattle.translation.proofs.Turns.{flat-size}
 use Rattle.translation.proofs.Sections.{nodes-accepted}

@@ -1,15 +1,11 @@
 -- `write` writes the image: the rules behind the first 16 bytes, and then the header over these. Assumes nothing.
-use mathlib.Core.Path.{_≡_, refl, sym, ap, _∙_}
-use mathlib.Core.List.{List, [], _∷_, _++_, map, map-append}
-use Prim.Native.Nat.{ℕ, zero, suc, _+_, _-_, _*_, _≤_, _<_}
-use native.Mathlib.Numerals.{add-one}
+use mathlib.Core.Path.{_≡_, _∙_}
+use Prim.Native.Nat.{_+_, _≤_}
 use native.Mathlib.Omega.{arith}
-use lib.ListN.{length, getD, take, drop, length-append}
+use lib.ListN.{length, take}
 use denote.Ref.{now}
-use borrow.Rule.Slice.PartMut.{putMid}
 use lib.Seq.{length-take-le}
-use Rattle.wire.specs.Wire.{over}
-use Rattle.wire.proofs.Laws.{Written, turn-room, turn}
+use Rattle.wire.proofs.Laws.{turn-room, turn}
 use Rattle.theory.specs.Image.{atomCount, bookOf}
 use Rattle.theory.proofs.Accepted.{accepted}
 use Rattle.program.specs.Image.{header, rulesBytes, imageOf}

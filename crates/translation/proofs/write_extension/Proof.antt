@@ -1,21 +1,16 @@
 -- `write_extension` writes the reading and then the labels into the rest, which together are the extension's bytes. Assumes nothing.
-use mathlib.Core.Path.{_≡_, refl, sym, ap, _∙_}
-use mathlib.Core.List.{List, [], _∷_, _++_, map, map-append}
-use Prim.Native.Nat.{ℕ, zero, suc, _+_, _-_, _*_, _≤_, _<_}
-use native.Mathlib.Numerals.{add-one}
+use mathlib.Core.Path.{_≡_, refl, ap}
+use mathlib.Core.List.{map}
+use Prim.Native.Nat.{_+_, _≤_}
 use native.Mathlib.Omega.{arith}
-use lib.ListN.{length, getD, take, drop, length-append}
+use lib.ListN.{length, take, length-append}
 use denote.Ref.{now}
-use borrow.Rule.Slice.PartMut.{putMid}
-use Rattle.refusal.specs.Rows.{readingRows}
-use Rattle.wire.specs.Wire.{over}
 use Rattle.wire.proofs.Laws.{Written, part-from, turn-room, turn}
 use Rattle.logic.specs.Value.{number}
 use Rattle.logic.specs.Formula.{readingOf}
-use Rattle.theory.specs.Image.{nodeCount, nodeSection, bookOf}
+use Rattle.theory.specs.Image.{nodeCount, nodeSection}
 use Rattle.theory.specs.NodeValues.{valuesTo}
 use Rattle.theory.proofs.Accepted.{accepted}
-use Rattle.translation.specs.Extension.{extend}
 use Rattle.translation.specs.Turns.{labelsTo}
 use Rattle.translation.proofs.NodeTerms.{node-known, operands-small}
 use Rattle.translation.proofs.Sections.{nodes-accepted}

@@ -1,19 +1,15 @@
 -- `write_facts` writes the roots' facts: before each turn those of the roots passed are written. Assumes nothing.
-use mathlib.Core.Path.{_≡_, refl, sym, ap, _∙_}
-use mathlib.Core.List.{List, [], _∷_, _++_, map, map-append}
-use Prim.Native.Nat.{ℕ, zero, suc, _+_, _-_, _*_, _≤_, _<_}
-use native.Mathlib.Numerals.{add-one}
+use mathlib.Core.Path.{_≡_, ap, _∙_}
+use Prim.Native.Nat.{_+_, _-_, _≤_}
 use native.Mathlib.Omega.{arith}
-use lib.ListN.{length, getD, take, drop, length-append}
+use lib.ListN.{length, getD}
 use denote.Ref.{now}
 use borrow.Author.Needs.{needs}
-use Rattle.wire.specs.Wire.{over}
 use Rattle.wire.proofs.Laws.{Written, written-none, turn-room, turn}
 use Rattle.theory.specs.Image.{rootIn}
-use Rattle.program.specs.Rule.{Rule}
 use Rattle.program.specs.Image.{rulesBytes}
 use Rattle.translation.specs.Flat.{fact, simplify}
-use Rattle.translation.specs.OneRule.{decode, madeOf, madeBytes}
+use Rattle.translation.specs.OneRule.{decode, madeBytes}
 use Rattle.translation.specs.Turns.{factsTo, scratchTerm}
 use Rattle.translation.proofs.OneRule.{madeOf-few, madeBytes-madeOf}
 use Rattle.translation.proofs.Turns.{factsTo-none, factsTo-more}
@@ -22,23 +18,23 @@ use Rattle.translation.proofs.write_facts.Statement.{statement}
 use Rattle.translation.proofs.write_facts.Tie as tie
 
 abbrev Inv-loop : tie.InvT-loop
-Inv-loop out₀ roots count terms at₀ i₀ out at i = Written (rulesBytes (factsTo (scratchTerm terms) roots i)) out₀ out at × (i ≤ count)
+Inv-loop out₀ roots count terms at₀ done₀ out at done = Written (rulesBytes (factsTo (scratchTerm terms) roots done)) out₀ out at × (done ≤ count)
 
 abbrev μ-loop : tie.MeasureT-loop
-μ-loop out₀ roots count terms at₀ i₀ out at i = count - i
+μ-loop out₀ roots count terms at₀ done₀ out at done = count - done
 
 loop-holds : tie.Need-loop-holds Inv-loop μ-loop
 unfolding rulesBytes
 loop-holds c = (rw factsTo-none (written-none _), search needs)
 
 -- the root's fact fits behind those written
-fits : (c : tie.In-loop Inv-loop μ-loop) → let start = c .before .before .before .before in let f = scratchTerm (now (start .args .terms)) in let s = now (start .args .roots) in let i = c .before .loop .i in
+fits : (c : tie.In-loop Inv-loop μ-loop) → let start = c .before .before .before .before in let f = scratchTerm (now (start .args .terms)) in let s = now (start .args .roots) in let i = c .before .loop .done in
     length (rulesBytes (factsTo f s i)) + length (rulesBytes (simplify (fact (f (rootIn s i))))) ≤ length (now (start .args .out))
 fits c =
     let start = c .before .before .before .before in
     let f = scratchTerm (now (start .args .terms)) in
     let s = now (start .args .roots) in
-    bytes-fit (factsTo f s) (λ i. simplify (fact (f (rootIn s i)))) (factsTo-more f s) (c .before .loop .i) (start .args .count) _ (search needs) (start .pre .1)
+    bytes-fit (factsTo f s) (λ i. simplify (fact (f (rootIn s i)))) (factsTo-more f s) (c .before .loop .done) (start .args .count) _ (search needs) (start .pre .1)
 
 mul-u16-at : tie.Need-mul-u16-at Inv-loop μ-loop
 mul-u16-at c = search needs
@@ -60,7 +56,7 @@ fact-of-requires c κs = search needs
 
 -- what was made is the root's fact
 bytes-are : (c : tie.After-fact-of Inv-loop μ-loop) → let loop = c .before .before .before .before .before in let start = loop .before .before .before in
-    madeBytes (c .fact-of .result) ≡ rulesBytes (simplify (fact (scratchTerm (now (start .args .terms)) (rootIn (now (start .args .roots)) (loop .loop .i)))))
+    madeBytes (c .fact-of .result) ≡ rulesBytes (simplify (fact (scratchTerm (now (start .args .terms)) (rootIn (now (start .args .roots)) (loop .loop .done)))))
 bytes-are c =
     let start = c .before .before .before .before .before .before .before .before in
     ap madeBytes (c .fact-of .ensures) ∙ madeBytes-madeOf _
@@ -94,8 +90,8 @@ add-at c =
     let put = rw (bytes-are made) at (c .before .before .put-rule .ensures .0) in
     omega (arith, fits turn, turn .before .loop .inv .0)
 
-add-i : tie.Need-add-i Inv-loop μ-loop
-add-i c =
+add-done : tie.Need-add-done Inv-loop μ-loop
+add-done c =
     let loop = c .before .before .before .before .before .before .before .before .before in
     omega (arith, loop .before .before .before .pre .0)
 
@@ -110,8 +106,8 @@ loop-again c =
     let put = c .before .before .put-rule .ensures in
     let f = scratchTerm (now (start .args .terms)) in
     let s = now (start .args .roots) in (
-      rw (bytes-more (factsTo f s) (λ i. simplify (fact (f (rootIn s i)))) (factsTo-more f s) (loop .loop .i))
-          (turn (loop .loop .inv .0) (rulesBytes (simplify (fact (f (rootIn s (loop .loop .i)))))) (fits (made .before .before .before .before)) (rw (bytes-are made) at (put .0)) (rw (bytes-are made) at (put .1))),
+      rw (bytes-more (factsTo f s) (λ i. simplify (fact (f (rootIn s i)))) (factsTo-more f s) (loop .loop .done))
+          (turn (loop .loop .inv .0) (rulesBytes (simplify (fact (f (rootIn s (loop .loop .done)))))) (fits (made .before .before .before .before)) (rw (bytes-are made) at (put .0)) (rw (bytes-are made) at (put .1))),
       search needs,
     )
 
@@ -120,7 +116,7 @@ same-length c = search needs
 
 returns : tie.Need-returns Inv-loop μ-loop
 returns c =
-    let e : c .before .loop .i ≡ c .before .before .before .before .args .count = omega arith in
+    let e : c .before .loop .done ≡ c .before .before .before .before .args .count = omega arith in
     let w = c .before .loop .inv .0 in
     (rw e at (w .end), rw e at (w .bytes))
 
@@ -142,7 +138,7 @@ write-facts-spec =
     part-put-rule-end
     put-rule-requires
     add-at
-    add-i
+    add-done
     loop-less
     loop-again
     same-length

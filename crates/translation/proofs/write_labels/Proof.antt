@@ -1,16 +1,13 @@
 -- `write_labels` writes the labels of all nodes: before each turn those of the nodes passed are written. Assumes nothing.
-use mathlib.Core.Path.{_≡_, refl, sym, ap, _∙_}
-use mathlib.Core.List.{List, [], _∷_, _++_, map, map-append}
-use Prim.Native.Nat.{ℕ, zero, suc, _+_, _-_, _*_, _≤_, _<_}
-use native.Mathlib.Numerals.{add-one}
+use mathlib.Core.Path.{_≡_, sym, _∙_}
+use Prim.Native.Nat.{_+_, _-_, _*_, _≤_, _<_}
 use native.Mathlib.Omega.{arith}
-use lib.ListN.{length, getD, take, drop, length-append}
+use lib.ListN.{length, getD, take, drop}
 use denote.Ref.{now}
 use borrow.Author.Needs.{needs}
 use lib.Seq.{length-take-le}
 use Rattle.wire.specs.Wire.{over}
 use Rattle.wire.proofs.Laws.{Written, written-none, turn-room, turn}
-use Rattle.logic.specs.Value.{number, negation, ofByte}
 use Rattle.theory.specs.Image.{nodeIn}
 use Rattle.translation.specs.Shapes.{labelsOf}
 use Rattle.translation.specs.Turns.{labelBytes, labelsTo}

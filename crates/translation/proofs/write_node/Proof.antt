@@ -1,20 +1,17 @@
 -- `write_node` writes a node's rules: before each turn those of the rows passed are written, and the next row's go into the unwritten rest. Assumes nothing.
-use mathlib.Core.Path.{_≡_, refl, sym, ap, _∙_}
-use mathlib.Core.List.{List, [], _∷_, _++_, map, map-append}
-use Prim.Native.Nat.{ℕ, zero, suc, _+_, _-_, _*_, _≤_, _<_}
-use native.Mathlib.Numerals.{add-one}
+use mathlib.Core.Path.{_≡_, ap, _∙_}
+use mathlib.Core.List.{List, []}
+use Prim.Native.Nat.{ℕ, _+_, _-_, _≤_, _<_}
 use native.Mathlib.Omega.{arith}
-use lib.ListN.{length, getD, take, drop, length-append}
+use lib.ListN.{length, getD}
 use denote.Ref.{now}
 use borrow.Author.Needs.{needs}
-use Rattle.wire.specs.Wire.{over}
 use Rattle.wire.proofs.Laws.{Written, written-none, turn-room, turn}
-use Rattle.program.specs.Rule.{Rule}
 use Rattle.program.specs.Image.{rulesBytes}
 use Rattle.translation.specs.Flat.{mapRule, simplify}
-use Rattle.translation.specs.Shapes.{shapes, kinds, firstRow, rowCount, shapeRule, kindShape}
+use Rattle.translation.specs.Shapes.{rowCount, shapeRule, kindShape}
 use Rattle.translation.specs.OneRule.{filled, madeOf, madeBytes}
-use Rattle.translation.specs.Turns.{kindRules, rowsTo}
+use Rattle.translation.specs.Turns.{rowsTo}
 use Rattle.translation.proofs.Shapes.{row-within, row-read, row-good}
 use Rattle.translation.proofs.OneRule.{ruleIn, madeOf-few, length-ruleIn, madeBytes-madeOf}
 use Rattle.translation.proofs.Turns.{rowsTo-none, rowsTo-more, rowsTo-all}

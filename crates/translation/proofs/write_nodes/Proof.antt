@@ -1,15 +1,13 @@
 -- `write_nodes` writes the rules of all nodes: before each turn those of the nodes passed are written, and the next node's go into the unwritten rest. Assumes nothing.
-use mathlib.Core.Path.{_≡_, refl, sym, ap, _∙_}
-use mathlib.Core.List.{List, [], _∷_, _++_, map, map-append}
-use Prim.Native.Nat.{ℕ, zero, suc, _+_, _-_, _*_, _≤_, _<_}
-use native.Mathlib.Numerals.{add-one}
+use mathlib.Core.Path.{_≡_, refl, sym}
+use mathlib.Core.List.{List}
+use Prim.Native.Nat.{ℕ, _+_, _-_, _≤_, _<_}
 use native.Mathlib.Omega.{arith}
-use lib.ListN.{length, getD, take, drop, length-append}
+use lib.ListN.{length}
 use denote.Ref.{now}
 use borrow.Author.Needs.{needs}
-use Rattle.wire.specs.Wire.{over}
 use Rattle.wire.proofs.Laws.{Written, written-none, turn-room, turn}
-use Rattle.theory.specs.Image.{kindOf, nodeIn}
+use Rattle.theory.specs.Image.{nodeIn}
 use Rattle.program.specs.Rule.{Rule}
 use Rattle.program.specs.Image.{rulesBytes}
 use Rattle.translation.specs.Table.{labelCount}

@@ -1,18 +1,14 @@
 -- `write_rules` writes the rules of the nodes and then the facts of the roots into the rest, which together are the program's rules. Assumes nothing.
-use mathlib.Core.Path.{_≡_, refl, sym, ap, _∙_}
-use mathlib.Core.List.{List, [], _∷_, _++_, map, map-append}
-use Prim.Native.Nat.{ℕ, zero, suc, _+_, _-_, _*_, _≤_, _<_}
-use native.Mathlib.Numerals.{add-one}
+use mathlib.Core.List.{_++_}
+use Prim.Native.Nat.{_+_, _-_, _≤_}
 use native.Mathlib.Omega.{arith}
-use lib.ListN.{length, getD, take, drop, length-append}
+use lib.ListN.{length, length-append}
 use denote.Ref.{now}
 use borrow.Rule.Slice.PartMut.{putMid}
-use Rattle.wire.specs.Wire.{over}
 use Rattle.wire.proofs.Laws.{Written, part-from, turn-room, turn}
-use Rattle.theory.specs.Image.{rootsStart, atomCount, nodeCount, rootCount, nodeSection, rootSection, bookOf}
+use Rattle.theory.specs.Image.{rootsStart, atomCount, nodeCount, rootCount, nodeSection, rootSection}
 use Rattle.theory.proofs.Accepted.{accepted}
 use Rattle.program.specs.Image.{rulesBytes}
-use Rattle.translation.specs.Flat.{flat}
 use Rattle.translation.specs.Turns.{rulesTo, factsTo, scratchTerm}
 use Rattle.translation.proofs.Writing.{written-first}
 use Rattle.translation.proofs.Sections.{nodes-accepted, roots-within, accepted-bytes, accepted-fit}
