@@ -7,6 +7,7 @@ pub mod BenchCases
 pub mod Shapes
 pub mod OneRule
 pub mod Turns
+pub mod Names
 pub mod NodeTerms
 pub mod Bounds
 pub mod Writing

@@ -1,8 +1,8 @@
 -- One rule as the code makes it: terms as numbers, and literals added one by one.
-use mathlib.Core.Bool.{true, false, not, cond}
+use mathlib.Core.Bool.{Bool, true, false, not, _&&_, cond}
 use mathlib.Core.List.{List, [], _∷_}
 use Prim.Native.Nat.{ℕ, zero, suc, _+_}
-use lib.Dec.{eqb}
+use lib.Dec.{eqb, ltb}
 use lib.ListN.{getD, length, set}
 use Rattle.program.specs.Rule.{RuleOf}
 use Rattle.program.specs.Image.{literals, tenBytes}
@@ -25,6 +25,10 @@ decode n = cond (eqb n 65534) (constant false) (cond (eqb n 65535) (constant tru
 -- What stands in the slots where x, y, L and M have these numbers.
 abbrev pub filled : List ℕ → Slot → Term
 filled terms s = decode (getD terms (slotNumber s) 0)
+
+-- Are the terms of x, y, L and M all names?
+abbrev pub allNames : List ℕ → Bool
+allNames terms = ltb (getD terms 0 0) 65534 && (ltb (getD terms 1 0) 65534 && (ltb (getD terms 2 0) 65534 && ltb (getD terms 3 0) 65534))
 
 -- One literal more, where the constant `removing` removes the rule: any other constant is dropped, and a name takes the next slot.
 abbrev pub added : Literals → (removing term : ℕ) → Literals

@@ -17,7 +17,7 @@ ghost use Rattle.program.specs.Image.{rulesBytes, imageLength, imageOf};
 ghost use Rattle.translation.specs.Flat.{termOf, fact, mapRule, flat};
 ghost use Rattle.translation.specs.Extension.{extend as extension};
 ghost use Rattle.translation.specs.Shapes.{shapes, kinds, shapeRule};
-ghost use Rattle.translation.specs.OneRule.{code, decode, filled, added, addedTo, madeOf, madeBytes};
+ghost use Rattle.translation.specs.OneRule.{code, decode, filled, allNames, added, addedTo, madeOf, madeBytes};
 ghost use Rattle.translation.specs.Turns.{Nodes, Roots, nextTo, termsTo, rulesTo, factsTo, scratchTerm, slotTerms, kindRules, Numbered, labelsTo};
 ghost use Rattle.translation.specs.Outcome.{sizeOf, ruleTotal, translateRows, translated, extendRows, extended};
 
@@ -128,6 +128,13 @@ fn add_slots(
         j += 1;
     }
     all
+}
+
+// Are the terms of x, y, L and M all names?
+fn all_names(terms: &[usize; 4]) -> bool
+    ensures { λ r. ⌜ r ≡ allNames (now (terms .entry)) ⌝ }
+{
+    terms[0] < FALSE && (terms[1] < FALSE && (terms[2] < FALSE && terms[3] < FALSE))
 }
 
 // The rule of a shape, where x, y, L and M have these terms.
@@ -255,8 +262,24 @@ fn stays(kept: bool) -> usize
     if kept { 1 } else { 0 }
 }
 
-// How many rules a node of a kind has, where x, y, L and M have these terms.
+// How many rules a node of a kind has, where x, y, L and M have these terms: without constants, as many as its kind has rows.
 fn count_node(
+    table: &[[usize; 6]; 14],
+    index: &[[usize; 3]; 7],
+    kind: usize,
+    terms: &[usize; 4],
+) -> usize
+    requires { ⌜ (now table ≡ shapes) × (now index ≡ kinds) × (kind < 7) ⌝ }
+    ensures { λ r. ⌜ r ≡ length (kindRules (now (terms .entry)) kind) ⌝ }
+{
+    if all_names(terms) {
+        return index[kind][1];
+    }
+    count_rows(table, index, kind, terms)
+}
+
+// How many rules of its kind's rows stay, whatever the terms.
+fn count_rows(
     table: &[[usize; 6]; 14],
     index: &[[usize; 3]; 7],
     kind: usize,
