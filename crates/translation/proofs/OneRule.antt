@@ -32,7 +32,7 @@ decode-code (constant false) h = refl
 decode-code (constant true) h = refl
 decode-code (name a) h = rw (ne-eqb a 65534 (λ e. omega arith), ne-eqb a 65535 (λ e. omega arith))
 
-slotNumber-slotOf : (n : ℕ) → n < 4 → slotNumber (slotOf n) ≡ n
+pub slotNumber-slotOf : (n : ℕ) → n < 4 → slotNumber (slotOf n) ≡ n
 slotNumber-slotOf zero h = refl
 slotNumber-slotOf (suc zero) h = refl
 slotNumber-slotOf (suc (suc zero)) h = refl

@@ -30,6 +30,10 @@ filled terms s = decode (getD terms (slotNumber s) 0)
 abbrev pub allNames : List ℕ → Bool
 allNames terms = ltb (getD terms 0 0) 65534 && (ltb (getD terms 1 0) 65534 && (ltb (getD terms 2 0) 65534 && ltb (getD terms 3 0) 65534))
 
+-- What stands in slot j of a rule of a shape that uses so many slots, where every term is a name: 0 where it is unused.
+abbrev pub nameIn : (s terms : List ℕ) → (used j : ℕ) → ℕ
+nameIn s terms used j = cond (ltb j used) (getD terms (getD s (3 + j) 0) 0) 0
+
 -- One literal more, where the constant `removing` removes the rule: any other constant is dropped, and a name takes the next slot.
 abbrev pub added : Literals → (removing term : ℕ) → Literals
 added l removing term =

@@ -17,7 +17,7 @@ ghost use Rattle.program.specs.Image.{rulesBytes, imageLength, imageOf};
 ghost use Rattle.translation.specs.Flat.{termOf, fact, mapRule, flat};
 ghost use Rattle.translation.specs.Extension.{extend as extension};
 ghost use Rattle.translation.specs.Shapes.{shapes, kinds, shapeRule};
-ghost use Rattle.translation.specs.OneRule.{code, decode, filled, allNames, added, addedTo, madeOf, madeBytes};
+ghost use Rattle.translation.specs.OneRule.{code, decode, filled, allNames, nameIn, added, addedTo, madeOf, madeBytes};
 ghost use Rattle.translation.specs.Turns.{Nodes, Roots, nextTo, termsTo, rulesTo, factsTo, scratchTerm, slotTerms, kindRules, Numbered, labelsTo};
 ghost use Rattle.translation.specs.Outcome.{sizeOf, ruleTotal, translateRows, translated, extendRows, extended};
 
@@ -137,8 +137,51 @@ fn all_names(terms: &[usize; 4]) -> bool
     terms[0] < FALSE && (terms[1] < FALSE && (terms[2] < FALSE && terms[3] < FALSE))
 }
 
-// The rule of a shape, where x, y, L and M have these terms.
+// What stands in slot j of a rule of a shape that uses so many slots, where every term is a name.
+fn name_in(shape: &[usize; 6], terms: &[usize; 4], used: usize, j: usize) -> usize
+    requires { ⌜ (j < 3) × ((i : ℕ) → i < 6 → getD (now shape) i 0 < 4) ⌝ }
+    ensures { λ r. ⌜ r ≡ nameIn (now (shape .entry)) (now (terms .entry)) used j ⌝ }
+{
+    if j < used { terms[shape[3 + j]] } else { 0 }
+}
+
+// The rule of a shape, where the terms of x, y, L and M are all names: it stays with all its literals.
+fn make_of_names(shape: &[usize; 6], terms: &[usize; 4]) -> Made
+    requires { ⌜ (getD (now shape) 0 0 + getD (now shape) 1 0 + getD (now shape) 2 0 ≤ 3) × ((j : ℕ) → j < 6 → getD (now shape) j 0 < 4) ⌝ }
+    requires { ⌜ allNames (now terms) ≡ true ⌝ }
+    ensures { λ r. ⌜ r ≡ madeOf (mapRule (filled (now (terms .entry))) (shapeRule (now (shape .entry)))) ⌝ }
+{
+    let heads = shape[0];
+    let positives = shape[1];
+    let negatives = shape[2];
+    let used = heads + positives + negatives;
+    let slots = [
+        name_in(shape, terms, used, 0),
+        name_in(shape, terms, used, 1),
+        name_in(shape, terms, used, 2),
+    ];
+    Made {
+        kept: true,
+        heads,
+        positives,
+        negatives,
+        slots,
+    }
+}
+
+// The rule of a shape, where x, y, L and M have these terms, by the straight way where no constant is among them.
 fn make(shape: &[usize; 6], terms: &[usize; 4]) -> Made
+    requires { ⌜ (getD (now shape) 0 0 + getD (now shape) 1 0 + getD (now shape) 2 0 ≤ 3) × ((j : ℕ) → j < 6 → getD (now shape) j 0 < 4) ⌝ }
+    ensures { λ r. ⌜ r ≡ madeOf (mapRule (filled (now (terms .entry))) (shapeRule (now (shape .entry)))) ⌝ }
+{
+    if all_names(terms) {
+        return make_of_names(shape, terms);
+    }
+    make_of_terms(shape, terms)
+}
+
+// The rule of a shape, its literals added one by one, whatever the terms.
+fn make_of_terms(shape: &[usize; 6], terms: &[usize; 4]) -> Made
     requires { ⌜ (getD (now shape) 0 0 + getD (now shape) 1 0 + getD (now shape) 2 0 ≤ 3) × ((j : ℕ) → j < 6 → getD (now shape) j 0 < 4) ⌝ }
     ensures { λ r. ⌜ r ≡ madeOf (mapRule (filled (now (terms .entry))) (shapeRule (now (shape .entry)))) ⌝ }
 {

@@ -1,17 +1,15 @@
 -- `count_rows` counts the rules that stay of a kind's rows: before each turn it has counted those of the rows passed. Assumes nothing.
-use mathlib.Core.Path.{_≡_, refl, sym, ap, _∙_}
-use mathlib.Core.List.{List, [], _∷_, _++_, map, map-append}
-use Prim.Native.Nat.{ℕ, zero, suc, _+_, _-_, _*_, _≤_, _<_}
-use native.Mathlib.Numerals.{add-one}
+use mathlib.Core.Path.{_≡_, ap, _∙_}
+use mathlib.Core.List.{List, []}
+use Prim.Native.Nat.{ℕ, _+_, _-_, _≤_, _<_}
 use native.Mathlib.Omega.{arith}
-use lib.ListN.{length, getD, take, drop, length-append}
+use lib.ListN.{length, getD, length-append}
 use denote.Ref.{now}
 use borrow.Author.Needs.{needs}
-use Rattle.theory.specs.Image.{kindOf}
 use Rattle.translation.specs.Flat.{mapRule, simplify}
-use Rattle.translation.specs.Shapes.{shapes, kinds, firstRow, rowCount, shapeRule, kindShape}
-use Rattle.translation.specs.OneRule.{filled, madeOf, madeCount}
-use Rattle.translation.specs.Turns.{kindRules, rowsTo}
+use Rattle.translation.specs.Shapes.{rowCount, shapeRule, kindShape}
+use Rattle.translation.specs.OneRule.{filled, madeCount}
+use Rattle.translation.specs.Turns.{rowsTo}
 use Rattle.translation.proofs.Shapes.{row-within, row-read, row-good}
 use Rattle.translation.proofs.OneRule.{madeCount-madeOf}
 use Rattle.translation.proofs.Turns.{rowsTo-none, rowsTo-more, rowsTo-all}
