@@ -3,7 +3,7 @@ use mathlib.Core.Path.{_≡_, refl, ap, _∙_}
 use mathlib.Core.Bool.{true, false}
 use mathlib.Core.List.{List, [], _∷_, _++_, map}
 use Prim.Native.Nat.{ℕ, _≤_, _<_}
-use lib.ListN.{length, take, drop}
+use lib.ListN.{length}
 use borrow.Author.Tests.{lt-ltb, le-ltb}
 use Rattle.refusal.specs.Limits.{mostB}
 use Rattle.refusal.specs.Table.{Row, refused, accepted, answer, none, Exact}
@@ -11,13 +11,11 @@ use Rattle.refusal.specs.Rows.{row8, argumentRows, readingRows}
 use Rattle.refusal.specs.declared.Answer.{Answer}
 use Rattle.refusal.proofs.Table.{none-cons, answer-past, answer-none, answer-refused, answer-exact}
 use Rattle.wire.specs.Wire.{over}
-use Rattle.wire.proofs.Laws.{take-over, drop-over}
 use Rattle.logic.specs.Value.{number}
 use Rattle.logic.specs.Formula.{readingOf}
 use Rattle.logic.proofs.Bools.{false-of}
 use Rattle.theory.specs.Image.{atomCount, bookOf}
 use Rattle.program.specs.Image.{imageLength, imageOf}
-use Rattle.program.proofs.Lengths.{length-imageOf}
 use Rattle.translation.specs.Flat.{flat}
 use Rattle.translation.specs.Extension.{extend}
 use Rattle.translation.specs.Outcome.{sizeOf, ruleTotal, translateRows, translated, extendRows, extended}
@@ -44,23 +42,6 @@ module _ (t out : List ℕ) where
 pub translate-exact : (t : List ℕ) (room : ℕ) → Exact (translateRows t room) (ruleTotal t) (answer (translateRows t room) (ruleTotal t))
 unfolding translateRows
 translate-exact t room = answer-exact (translateRows t room) (ruleTotal t) refl
-
--- ---- the outcome of a translation, as bytes
-
-module _ (t out : List ℕ) (all : none (translateRows t (length out)) ≡ true) where
-  -- Accepted, it begins with the image, and the rest is unchanged.
-  pub translated-image : take (imageLength (ruleTotal t)) (translated t out) ≡ imageOf (flat (bookOf t))
-  unfolding translated
-  translated-image = rw (all, ← length-imageOf (flat (bookOf t))) (take-over (imageOf (flat (bookOf t))) out)
-
-  pub translated-rest : drop (imageLength (ruleTotal t)) (translated t out) ≡ drop (imageLength (ruleTotal t)) out
-  unfolding translated
-  translated-rest = rw (all, ← length-imageOf (flat (bookOf t))) (drop-over (imageOf (flat (bookOf t))) out)
-
--- Refused, it is unchanged.
-pub translated-refused : (t out : List ℕ) → none (translateRows t (length out)) ≡ false → translated t out ≡ out
-unfolding translated
-translated-refused t out h = rw h
 
 -- ---- extension
 
@@ -115,8 +96,3 @@ module _ (t reading out : List ℕ) where
 pub extend-exact : (t reading : List ℕ) (room : ℕ) → Exact (extendRows t reading room) (sizeOf t) (answer (extendRows t reading room) (sizeOf t))
 unfolding extendRows argumentRows
 extend-exact t reading room = answer-exact (extendRows t reading room) (sizeOf t) refl
-
--- Refused, the output is unchanged.
-pub extended-refused : (t reading out : List ℕ) → none (extendRows t reading (length out)) ≡ false → extended t reading out ≡ out
-unfolding extended
-extended-refused t reading out h = rw h

@@ -57,10 +57,7 @@ shape-slots i h j l =
 pub rows-within : (k : ℕ) → k < 7 → firstRow k + rowCount k ≤ 14
 rows-within k h = leb-true _ _ (all-at (λ k. leb (firstRow k + rowCount k) 14) 7 refl k h)
 
--- A kind has at most six rows and two labels.
-pub rows-few : (k : ℕ) → k < 7 → rowCount k ≤ 6
-rows-few k h = leb-true _ _ (all-at (λ k. leb (rowCount k) 6) 7 refl k h)
-
+-- A kind has at most two labels.
 pub labels-few : (k : ℕ) → k < 7 → labelsOf k ≤ 2
 labels-few k h = leb-true _ _ (all-at (λ k. leb (labelsOf k) 2) 7 refl k h)
 
