@@ -1,7 +1,8 @@
 -- `put_labels` writes as many of the node's value and that of not its right side as the node has labels. Assumes nothing.
 use mathlib.Core.Path.{_≡_, sym, ap, _∙_}
-use mathlib.Core.List.{[], _∷_}
+use lib.ListN.{length-take}
 use lib.Seq.{length-take-le}
+use native.Mathlib.Omega.{arith}
 use Rattle.logic.specs.Value.{number, negation, ofByte}
 use borrow.Author.Needs.{needs}
 use Rattle.translation.proofs.put_labels.Statement.{statement}
@@ -23,7 +24,7 @@ slice-aggregate-put : tie.Need-slice-aggregate-put
 slice-aggregate-put c = sym (length-take-le (c .before .before .before .before .before .before .args .labels) _ (c .before .before .before .before .before .before .pre .0))
 
 put-requires : tie.Need-put-requires
-put-requires c κs = rw (length-take-le (c .before .before .before .before .before .before .args .labels) (c .before .before .before .before .before .before .args .value ∷ c .before .before .byte .result ∷ []) (c .before .before .before .before .before .before .pre .0)) (c .before .before .before .before .before .before .pre .1)
+put-requires c κs = rw length-take (omega (arith, c .before .before .before .before .before .before .pre))
 
 same-length : tie.Need-same-length
 same-length c = search needs
