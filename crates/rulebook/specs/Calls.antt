@@ -1,4 +1,6 @@
 -- What each public call gives, for every input: number, place and result by the rows of the refusal table in their order, and every byte of its output.
+-- Behind each, its contract: what the answer has to be and, for a call that writes, what is left in its output.
+use mathlib.Core.Path.{_≡_}
 use mathlib.Core.Bool.{Bool, true, false}
 use mathlib.Core.List.{List, [], _∷_, _++_, map}
 use Prim.Native.Nat.{ℕ}
@@ -32,6 +34,10 @@ yes false = 0
 abbrev pub checkTheory : (theory : List ℕ) → Answer
 checkTheory t = answer (theoryRows t) 1
 
+-- Its contract.
+abbrev pub ChecksTheory : (theory : List ℕ) → Answer → Type 0
+ChecksTheory t a = a ≡ checkTheory t
+
 -- Evaluating a theory: rows 1-7, 9, 10; the result is whether the reading satisfies it.
 abbrev pub evaluateTheoryRows : (theory reading : List ℕ) → List Row
 evaluateTheoryRows t r = theoryRows t ++ readingRows (atomCount t) r
@@ -39,9 +45,17 @@ evaluateTheoryRows t r = theoryRows t ++ readingRows (atomCount t) r
 abbrev pub evaluateTheory : (theory reading : List ℕ) → Answer
 evaluateTheory t r = answer (evaluateTheoryRows t r) (yes (satisfies (readingOf r) (bookFormulas (bookOf t))))
 
+-- Its contract.
+abbrev pub EvaluatesTheory : (theory reading : List ℕ) → Answer → Type 0
+EvaluatesTheory t r a = a ≡ evaluateTheory t r
+
 -- Checking a program: rows 21-26; the result is yes.
 abbrev pub checkProgram : (program : List ℕ) → Answer
 checkProgram p = answer (programRows p) 1
+
+-- Its contract.
+abbrev pub ChecksProgram : (program : List ℕ) → Answer → Type 0
+ChecksProgram p a = a ≡ checkProgram p
 
 -- Evaluating a program: rows 21-26, 9, 10; the result is whether the reading satisfies it.
 abbrev pub evaluateProgramRows : (program reading : List ℕ) → List Row
@@ -50,12 +64,20 @@ evaluateProgramRows p r = programRows p ++ readingRows (sizeOf p) r
 abbrev pub evaluateProgram : (program reading : List ℕ) → Answer
 evaluateProgram p r = answer (evaluateProgramRows p r) (yes (satisfiesProgram (readingOf r) (programOf p)))
 
+-- Its contract.
+abbrev pub EvaluatesProgram : (program reading : List ℕ) → Answer → Type 0
+EvaluatesProgram p r a = a ≡ evaluateProgram p r
+
 -- Translating: rows 1-7, 14, 8; the result is K, and the bytes are the flat program's image.
 abbrev pub translateCallRows : (theory out : List ℕ) → List Row
 translateCallRows t out = theoryRows t ++ translateRows t (length out)
 
 abbrev pub translate : (theory out : List ℕ) → Outcome
 translate t out = outcome (answer (translateCallRows t out) (ruleTotal t)) (written (translateCallRows t out) (imageOf (flat (bookOf t))) out)
+
+-- Its contract.
+abbrev pub Translates : (theory out : List ℕ) → Answer → (left : List ℕ) → Type 0
+Translates t out a left = outcome a left ≡ translate t out
 
 -- Extending: rows 1-7, 14, 9, 10, 8; the result is B, and the bytes are the reading's and then each label's value.
 abbrev pub extendCallRows : (theory reading out : List ℕ) → List Row
@@ -64,6 +86,10 @@ extendCallRows t r out = theoryRows t ++ extendRows t r (length out)
 abbrev pub extend : (theory reading out : List ℕ) → Outcome
 extend t r out =
     outcome (answer (extendCallRows t r out) (flat (bookOf t) .size)) (written (extendCallRows t r out) (map number (extension (bookOf t) (readingOf r))) out)
+
+-- Its contract.
+abbrev pub ExtendsReading : (theory reading out : List ℕ) → Answer → (left : List ℕ) → Type 0
+ExtendsReading t r out a left = outcome a left ≡ extend t r out
 
 -- The row of a candidate test's own: over 16 atoms true.
 abbrev pub row11True : (candidate : List ℕ) → Row
@@ -76,6 +102,10 @@ testTheoryRows t c = theoryRows t ++ (candidateRows (atomCount t) c ++ (row11Tru
 abbrev pub testTheory : (theory candidate : List ℕ) → Answer
 testTheory t c = answer (testTheoryRows t c) (yes (isAnswerSet (atomCount t) (bookFormulas (bookOf t)) (setOf c)))
 
+-- Its contract.
+abbrev pub TestsTheory : (theory candidate : List ℕ) → Answer → Type 0
+TestsTheory t c a = a ≡ testTheory t c
+
 -- Testing a candidate of a program: rows 21-26, 9, 10, 11; the result is whether it is an answer set.
 abbrev pub testProgramRows : (program candidate : List ℕ) → List Row
 testProgramRows p c = programRows p ++ (candidateRows (sizeOf p) c ++ (row11True c ∷ []))
@@ -83,9 +113,17 @@ testProgramRows p c = programRows p ++ (candidateRows (sizeOf p) c ++ (row11True
 abbrev pub testProgram : (program candidate : List ℕ) → Answer
 testProgram p c = answer (testProgramRows p c) (yes (isAnswerSet (sizeOf p) (programFormulas (programOf p)) (setOf c)))
 
+-- Its contract.
+abbrev pub TestsProgram : (program candidate : List ℕ) → Answer → Type 0
+TestsProgram p c a = a ≡ testProgram p c
+
 -- Listing: rows 1-7, 11, 8; the result is the number of answer sets, and the bytes are their numbers.
 abbrev pub listSetsRows : (theory out : List ℕ) → List Row
 listSetsRows t out = theoryRows t ++ setsRows t out
 
 abbrev pub listSets : (theory out : List ℕ) → Outcome
 listSets t out = outcome (answer (listSetsRows t out) (length (setsOf t))) (written (listSetsRows t out) (listing t) out)
+
+-- Its contract.
+abbrev pub ListsSets : (theory out : List ℕ) → Answer → (left : List ℕ) → Type 0
+ListsSets t out a left = outcome a left ≡ listSets t out

@@ -53,60 +53,63 @@ use Rattle.stable.specs.Subset.{setOf}
 use Rattle.stable.specs.Number.{numberOf}
 use Rattle.stable.specs.Listing.{setsOf as bookSets, setsRows, listing, Ascending}
 use Rattle.stable.proofs.Listings
-use Rattle.rulebook.specs.Calls.{yes, checkTheory, evaluateTheoryRows, evaluateTheory, translateCallRows, translate, extendCallRows, extend, testTheoryRows, testTheory, listSetsRows, listSets, checkProgram, evaluateProgramRows, evaluateProgram, testProgramRows, testProgram}
+use Rattle.rulebook.specs.Calls.{yes, checkTheory, ChecksTheory, evaluateTheoryRows, evaluateTheory, EvaluatesTheory, checkProgram, ChecksProgram}
+use Rattle.rulebook.specs.Calls.{evaluateProgramRows, evaluateProgram, EvaluatesProgram, translateCallRows, translate, Translates}
+use Rattle.rulebook.specs.Calls.{extendCallRows, extend, ExtendsReading, testTheoryRows, testTheory, TestsTheory}
+use Rattle.rulebook.specs.Calls.{testProgramRows, testProgram, TestsProgram, listSetsRows, listSets, ListsSets}
 
 -- Demand 1: no two outcomes meet a call's contract, and each row's number is given exactly where that row applies and no earlier one does.
 
-checkTheory-unique : (t : List ℕ) (a b : Answer) → a ≡ checkTheory t → b ≡ checkTheory t → a ≡ b
-checkTheory-unique t a b p q = p ∙ sym q
+checkTheory-unique : (t : List ℕ) (a b : Answer) → ChecksTheory t a → ChecksTheory t b → a ≡ b
+checkTheory-unique t a b d e = d ∙ sym e
 
 checkTheory-exact : (t : List ℕ) → Exact (theoryRows t) 1 (checkTheory t)
 checkTheory-exact t = answer-exact (theoryRows t) 1 (numbered-theoryRows t)
 
-evaluateTheory-unique : (t r : List ℕ) (a b : Answer) → a ≡ evaluateTheory t r → b ≡ evaluateTheory t r → a ≡ b
-evaluateTheory-unique t r a b p q = p ∙ sym q
+evaluateTheory-unique : (t r : List ℕ) (a b : Answer) → EvaluatesTheory t r a → EvaluatesTheory t r b → a ≡ b
+evaluateTheory-unique t r a b d e = d ∙ sym e
 
 evaluateTheory-exact : (t r : List ℕ) → Exact (evaluateTheoryRows t r) (yes (satisfies (readingOf r) (bookFormulas (bookOf t)))) (evaluateTheory t r)
 evaluateTheory-exact t r = unfold theoryRows headerRows argumentRows in answer-exact (evaluateTheoryRows t r) _ refl
 
-checkProgram-unique : (p : List ℕ) (a b : Answer) → a ≡ checkProgram p → b ≡ checkProgram p → a ≡ b
-checkProgram-unique p a b e f = e ∙ sym f
+checkProgram-unique : (p : List ℕ) (a b : Answer) → ChecksProgram p a → ChecksProgram p b → a ≡ b
+checkProgram-unique p a b d e = d ∙ sym e
 
 checkProgram-exact : (p : List ℕ) → Exact (programRows p) 1 (checkProgram p)
 checkProgram-exact p = answer-exact (programRows p) 1 (program-accepted.numbered-programRows p)
 
-evaluateProgram-unique : (p r : List ℕ) (a b : Answer) → a ≡ evaluateProgram p r → b ≡ evaluateProgram p r → a ≡ b
-evaluateProgram-unique p r a b e f = e ∙ sym f
+evaluateProgram-unique : (p r : List ℕ) (a b : Answer) → EvaluatesProgram p r a → EvaluatesProgram p r b → a ≡ b
+evaluateProgram-unique p r a b d e = d ∙ sym e
 
 evaluateProgram-exact : (p r : List ℕ) → Exact (evaluateProgramRows p r) (yes (satisfiesProgram (readingOf r) (programOf p))) (evaluateProgram p r)
 evaluateProgram-exact p r = unfold programRows argumentRows in answer-exact (evaluateProgramRows p r) _ refl
 
-translate-unique : (t o : List ℕ) (a b : Outcome) → a ≡ translate t o → b ≡ translate t o → a ≡ b
-translate-unique t o a b p q = p ∙ sym q
+translate-unique : (t o : List ℕ) (a b : Answer) (left right : List ℕ) → Translates t o a left → Translates t o b right → (a ≡ b) × (left ≡ right)
+translate-unique t o a b left right d e = Outcome.outcome-both (d ∙ sym e)
 
 translate-exact : (t o : List ℕ) → Exact (translateCallRows t o) (ruleTotal t) (translate t o .answer)
 translate-exact t o = unfold theoryRows headerRows translateRows in answer-exact (translateCallRows t o) _ refl
 
-extend-unique : (t r o : List ℕ) (a b : Outcome) → a ≡ extend t r o → b ≡ extend t r o → a ≡ b
-extend-unique t r o a b p q = p ∙ sym q
+extend-unique : (t r o : List ℕ) (a b : Answer) (left right : List ℕ) → ExtendsReading t r o a left → ExtendsReading t r o b right → (a ≡ b) × (left ≡ right)
+extend-unique t r o a b left right d e = Outcome.outcome-both (d ∙ sym e)
 
 extend-exact : (t r o : List ℕ) → Exact (extendCallRows t r o) (flat (bookOf t) .size) (extend t r o .answer)
 extend-exact t r o = unfold theoryRows headerRows extendRows argumentRows in answer-exact (extendCallRows t r o) _ refl
 
-testTheory-unique : (t c : List ℕ) (a b : Answer) → a ≡ testTheory t c → b ≡ testTheory t c → a ≡ b
-testTheory-unique t c a b p q = p ∙ sym q
+testTheory-unique : (t c : List ℕ) (a b : Answer) → TestsTheory t c a → TestsTheory t c b → a ≡ b
+testTheory-unique t c a b d e = d ∙ sym e
 
 testTheory-exact : (t c : List ℕ) → Exact (testTheoryRows t c) (yes (isAnswerSet (atomCount t) (bookFormulas (bookOf t)) (setOf c))) (testTheory t c)
 testTheory-exact t c = unfold theoryRows headerRows argumentRows in answer-exact (testTheoryRows t c) _ refl
 
-testProgram-unique : (p c : List ℕ) (a b : Answer) → a ≡ testProgram p c → b ≡ testProgram p c → a ≡ b
-testProgram-unique p c a b e f = e ∙ sym f
+testProgram-unique : (p c : List ℕ) (a b : Answer) → TestsProgram p c a → TestsProgram p c b → a ≡ b
+testProgram-unique p c a b d e = d ∙ sym e
 
 testProgram-exact : (p c : List ℕ) → Exact (testProgramRows p c) (yes (isAnswerSet (sizeOf p) (programFormulas (programOf p)) (setOf c))) (testProgram p c)
 testProgram-exact p c = unfold programRows argumentRows in answer-exact (testProgramRows p c) _ refl
 
-listSets-unique : (t o : List ℕ) (a b : Outcome) → a ≡ listSets t o → b ≡ listSets t o → a ≡ b
-listSets-unique t o a b p q = p ∙ sym q
+listSets-unique : (t o : List ℕ) (a b : Answer) (left right : List ℕ) → ListsSets t o a left → ListsSets t o b right → (a ≡ b) × (left ≡ right)
+listSets-unique t o a b left right d e = Outcome.outcome-both (d ∙ sym e)
 
 listSets-exact : (t o : List ℕ) → Exact (listSetsRows t o) (length (bookSets t)) (listSets t o .answer)
 listSets-exact t o = unfold theoryRows headerRows setsRows in answer-exact (listSetsRows t o) _ refl

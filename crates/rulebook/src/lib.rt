@@ -1,13 +1,12 @@
 //! The public calls. Each takes any bytes in every slice, trusts no earlier check, and has no `requires`.
 use refusal::Answer;
 ghost use mathlib.Core.Path.{_≡_};
-ghost use Rattle.wire.specs.Outcome.{outcome};
-ghost use Rattle.rulebook.specs.Calls.{yes, checkTheory, evaluateTheory, translate, extend, testTheory, listSets, checkProgram, evaluateProgram, testProgram};
+ghost use Rattle.rulebook.specs.Calls.{yes, ChecksTheory, EvaluatesTheory, Translates, ExtendsReading, TestsTheory, ListsSets, ChecksProgram, EvaluatesProgram, TestsProgram};
 
 // Checks a theory image.
 #[no_mangle]
 pub extern "C" fn rulebook_check_theory(theory: &[u8]) -> Answer
-    ensures { λ r. ⌜ r ≡ checkTheory (now (theory .entry)) ⌝ }
+    ensures { λ r. ⌜ ChecksTheory (now (theory .entry)) r ⌝ }
 {
     theory::check(theory)
 }
@@ -15,7 +14,7 @@ pub extern "C" fn rulebook_check_theory(theory: &[u8]) -> Answer
 // Whether a reading, a byte for each atom, satisfies a theory.
 #[no_mangle]
 pub extern "C" fn rulebook_evaluate_theory(theory: &[u8], reading: &[u8]) -> Answer
-    ensures { λ r. ⌜ r ≡ evaluateTheory (now (theory .entry)) (now (reading .entry)) ⌝ }
+    ensures { λ r. ⌜ EvaluatesTheory (now (theory .entry)) (now (reading .entry)) r ⌝ }
 {
     let image = theory::check(theory);
     if image.number != 0 {
@@ -33,7 +32,7 @@ pub extern "C" fn rulebook_evaluate_theory(theory: &[u8], reading: &[u8]) -> Ans
 // Translates a theory into a flat program image.
 #[no_mangle]
 pub extern "C" fn rulebook_translate(theory: &[u8], out: &mut [u8]) -> Answer
-    ensures { λ r. ⌜ outcome r (now (out .exit)) ≡ translate (now (theory .entry)) (now (out .entry)) ⌝ }
+    ensures { λ r. ⌜ Translates (now (theory .entry)) (now (out .entry)) r (now (out .exit)) ⌝ }
 {
     let image = theory::check(theory);
     if image.number != 0 {
@@ -45,7 +44,7 @@ pub extern "C" fn rulebook_translate(theory: &[u8], out: &mut [u8]) -> Answer
 // Extends a reading of a theory's atoms to the labels of its flat program.
 #[no_mangle]
 pub extern "C" fn rulebook_extend(theory: &[u8], reading: &[u8], out: &mut [u8]) -> Answer
-    ensures { λ r. ⌜ outcome r (now (out .exit)) ≡ extend (now (theory .entry)) (now (reading .entry)) (now (out .entry)) ⌝ }
+    ensures { λ r. ⌜ ExtendsReading (now (theory .entry)) (now (reading .entry)) (now (out .entry)) r (now (out .exit)) ⌝ }
 {
     let image = theory::check(theory);
     if image.number != 0 {
@@ -57,7 +56,7 @@ pub extern "C" fn rulebook_extend(theory: &[u8], reading: &[u8], out: &mut [u8])
 // Whether a candidate, a byte 0 or 2 for each atom, is an answer set of a theory.
 #[no_mangle]
 pub extern "C" fn rulebook_test_theory(theory: &[u8], candidate: &[u8]) -> Answer
-    ensures { λ r. ⌜ r ≡ testTheory (now (theory .entry)) (now (candidate .entry)) ⌝ }
+    ensures { λ r. ⌜ TestsTheory (now (theory .entry)) (now (candidate .entry)) r ⌝ }
 {
     let image = theory::check(theory);
     if image.number != 0 {
@@ -78,7 +77,7 @@ pub extern "C" fn rulebook_test_theory(theory: &[u8], candidate: &[u8]) -> Answe
 // Lists the answer sets of a small theory: a 2-byte number each, in which atom i weighs 2 to the i.
 #[no_mangle]
 pub extern "C" fn rulebook_list_sets(theory: &[u8], out: &mut [u8]) -> Answer
-    ensures { λ r. ⌜ outcome r (now (out .exit)) ≡ listSets (now (theory .entry)) (now (out .entry)) ⌝ }
+    ensures { λ r. ⌜ ListsSets (now (theory .entry)) (now (out .entry)) r (now (out .exit)) ⌝ }
 {
     let image = theory::check(theory);
     if image.number != 0 {
@@ -90,7 +89,7 @@ pub extern "C" fn rulebook_list_sets(theory: &[u8], out: &mut [u8]) -> Answer
 // Checks a program image.
 #[no_mangle]
 pub extern "C" fn rulebook_check_program(program: &[u8]) -> Answer
-    ensures { λ r. ⌜ r ≡ checkProgram (now (program .entry)) ⌝ }
+    ensures { λ r. ⌜ ChecksProgram (now (program .entry)) r ⌝ }
 {
     program::check(program)
 }
@@ -98,7 +97,7 @@ pub extern "C" fn rulebook_check_program(program: &[u8]) -> Answer
 // Whether a reading, a byte for each atom and label, satisfies a program.
 #[no_mangle]
 pub extern "C" fn rulebook_evaluate_program(program: &[u8], reading: &[u8]) -> Answer
-    ensures { λ r. ⌜ r ≡ evaluateProgram (now (program .entry)) (now (reading .entry)) ⌝ }
+    ensures { λ r. ⌜ EvaluatesProgram (now (program .entry)) (now (reading .entry)) r ⌝ }
 {
     let image = program::check(program);
     if image.number != 0 {
@@ -115,7 +114,7 @@ pub extern "C" fn rulebook_evaluate_program(program: &[u8], reading: &[u8]) -> A
 // Whether a candidate, a byte 0 or 2 for each atom and label, is an answer set of a program.
 #[no_mangle]
 pub extern "C" fn rulebook_test_program(program: &[u8], candidate: &[u8]) -> Answer
-    ensures { λ r. ⌜ r ≡ testProgram (now (program .entry)) (now (candidate .entry)) ⌝ }
+    ensures { λ r. ⌜ TestsProgram (now (program .entry)) (now (candidate .entry)) r ⌝ }
 {
     let image = program::check(program);
     if image.number != 0 {

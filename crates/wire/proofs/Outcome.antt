@@ -8,8 +8,12 @@ use Rattle.refusal.specs.declared.Answer.{Answer}
 use Rattle.refusal.specs.Table.{Row, answer, none}
 use Rattle.refusal.proofs.Table.{answer-past, answer-refused, none-past, none-refused}
 use Rattle.wire.specs.Wire.{over}
-use Rattle.wire.specs.Outcome.{outcome, written}
+use Rattle.wire.specs.Outcome.{Outcome, outcome, written}
 use Rattle.wire.proofs.Laws.{take-over, drop-over}
+
+-- equal outcomes have the same answer and the same output
+pub outcome-both : {a b : Answer} {left right : List ℕ} → outcome a left ≡ outcome b right → (a ≡ b) × (left ≡ right)
+outcome-both e = (ap (λ (o : Outcome). o .answer) e, ap (λ (o : Outcome). o .out) e)
 
 -- a refusal leaves the output as it was
 pub written-refused : (rows : List Row) (x : ℕ) (bytes out : List ℕ) → (answer rows x .number ≡ 0 → ⊥) → written rows bytes out ≡ out
