@@ -6,7 +6,7 @@ use Prim.Native.Nat.{ℕ}
 use lib.Dec.{eqb}
 use borrow.Author.Tests.{not-true, eqb-false}
 use Rattle.refusal.specs.declared.Answer.{Answer}
-use Rattle.refusal.specs.Table.{Row, refused, accepted, answer, none, unused, numbered, Exact}
+use Rattle.refusal.specs.Table.{Row, refused, accepted, yes, answer, none, unused, numbered, Exact}
 
 -- what follows where a test holds, and where it fails, follows
 pub cases : {P : Type 0} (b : Bool) → (b ≡ true → P) → (b ≡ false → P) → P
@@ -90,6 +90,16 @@ none-accepted (r ∷ rs) x h e z =
 -- and the rows behind decide
 pub answer-accepted : (rs qs : List Row) (x y : ℕ) → numbered rs ≡ true → {a : Answer} → a ≡ answer rs x → a .number ≡ 0 → answer (rs ++ qs) y ≡ answer qs y
 answer-accepted rs qs x y h e z = answer-past rs qs y (none-accepted rs x h e z)
+
+-- a question that is answered yes is not refused, and its answer is yes
+pub answer-yes : (rs : List Row) (b : Bool) → numbered rs ≡ true → answer rs (yes b) ≡ accepted 1 → (none rs ≡ true) × (b ≡ true)
+answer-yes rs b h e =
+    let n = none-accepted rs (yes b) h (sym e) refl in
+    (n, is-yes b (ap (λ (a : Answer). a .result) (sym (answer-none rs (yes b) n) ∙ e)))
+  where
+    is-yes : (b : Bool) → yes b ≡ 1 → b ≡ true
+    is-yes true e = refl
+    is-yes false e = cc
 
 -- a number that no row has is not given
 answer-unused : (n : ℕ) (rs : List Row) (x : ℕ) → unused n rs ≡ true → (0 ≡ n → ⊥) → answer rs x .number ≡ n → ⊥

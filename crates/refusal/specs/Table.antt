@@ -1,7 +1,7 @@
 -- The refusal table: its rows in the order tested, the answer that they give, and what it is for an answer to be exact.
 use mathlib.Core.Path.{_≡_}
 use mathlib.Core.Logic.{_↔_}
-use mathlib.Core.Bool.{Bool, true, cond, not, _&&_}
+use mathlib.Core.Bool.{Bool, true, false, cond, not, _&&_}
 use mathlib.Core.List.{List, [], _∷_, _++_}
 use Prim.Native.Nat.{ℕ}
 use lib.Dec.{eqb}
@@ -20,6 +20,11 @@ refused number place = record { number = number; place = place; result = 0 }
 -- on acceptance: the number 0, the place 0, and a result
 abbrev pub accepted : ℕ → Answer
 accepted result = record { number = 0; place = 0; result = result }
+
+-- the result of a question: yes is 1, no is 0
+abbrev pub yes : Bool → ℕ
+yes true = 1
+yes false = 0
 
 -- the first row that applies refuses; where none does, the result is accepted
 abbrev pub answer : List Row → ℕ → Answer

@@ -1,13 +1,12 @@
 -- What each public call gives, for every input: number, place and result by the rows of the refusal table in their order, and every byte of its output.
 -- Behind each, its contract: what the answer has to be and, for a call that writes, what is left in its output.
 use mathlib.Core.Path.{_≡_}
-use mathlib.Core.Bool.{Bool, true, false}
 use mathlib.Core.List.{List, [], _∷_, _++_, map}
 use Prim.Native.Nat.{ℕ}
 use lib.ListN.{length}
 use Rattle.refusal.specs.declared.Answer.{Answer}
 use Rattle.refusal.specs.Limits.{mostTrue}
-use Rattle.refusal.specs.Table.{Row, answer}
+use Rattle.refusal.specs.Table.{Row, yes, answer}
 use Rattle.refusal.specs.Rows.{readingRows, candidateRows, row11, countTrue}
 use Rattle.wire.specs.Outcome.{Outcome, outcome, written}
 use Rattle.logic.specs.Value.{number}
@@ -24,11 +23,6 @@ use Rattle.translation.specs.Outcome.{ruleTotal, translateRows, extendRows}
 use Rattle.translation.specs.Extension.{extend as extension}
 use Rattle.stable.specs.Subset.{setOf}
 use Rattle.stable.specs.Listing.{setsOf, setsRows, listing}
-
--- Yes is 1, no is 0.
-abbrev pub yes : Bool → ℕ
-yes true = 1
-yes false = 0
 
 -- Checking a theory: rows 1-7; the result is yes.
 abbrev pub checkTheory : (theory : List ℕ) → Answer

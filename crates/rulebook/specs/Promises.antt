@@ -1,26 +1,28 @@
 -- What is promised, in document 01's order. Each statement uses only definitions of specs/, and each proof cites the law behind it.
 use mathlib.Core.Path.{_≡_, refl, sym, _∙_}
 use mathlib.Core.Logic.{_↔_}
-use mathlib.Core.Bool.{Bool, true, not}
+use mathlib.Core.Bool.{Bool, true, not, cond}
 use mathlib.Core.List.{List, _++_, map, List·Memᴰ}
-use Prim.Native.Nat.{ℕ, suc, _≤_, _<_}
-use lib.Dec.{ltb}
+use Prim.Native.Nat.{ℕ, suc, min, max, _≤_, _<_}
+use lib.Dec.{ltb, leb, eqb}
 use lib.ListN.{length, getD, take, drop}
 use Rattle.refusal.specs.declared.Answer.{Answer}
-use Rattle.refusal.specs.Table.{accepted, none, Exact}
+use Rattle.refusal.specs.Table.{accepted, yes, none, Exact}
 use Rattle.refusal.specs.First.{FirstAt}
 use Rattle.refusal.specs.Rows.{wrong, row10, argumentRows, readingRows}
-use Rattle.refusal.proofs.Table.{answer-none, answer-exact}
+use Rattle.refusal.proofs.Table.{answer-none, answer-exact, none-split}
 use Rattle.wire.specs.Wire.{Bytes}
 use Rattle.wire.specs.Outcome.{Outcome}
 use Rattle.wire.proofs.Outcome
 use Rattle.refusal.proofs.First.{firstSuch-first}
+use Rattle.logic.specs.declared.Value.{Value}
 use Rattle.logic.specs.declared.Value.the-variants.{Both}
-use Rattle.logic.specs.Value.{number, negation}
+use Rattle.logic.specs.Value.{number, smaller, larger, negation, implication}
 use Rattle.logic.specs.Formula.{Formula, Reading, readingOf, valueOf, value, satisfies, AllOver}
 use Rattle.logic.specs.Atoms.{Atoms, hereOf, thereOf}
 use Rattle.logic.specs.HereAndThere.{here, there, truth, Equilibrium}
 use Rattle.logic.specs.AnswerSet.{AnswerSet, isAnswerSet, answerSets}
+use Rattle.logic.proofs.Values
 use Rattle.logic.proofs.Worlds
 use Rattle.logic.proofs.AnswerSets
 use Rattle.theory.specs.Book.{Book, nodeAt, impliesKind, WellFormed, formulaAt, nodeFormulas, bookFormulas}
@@ -32,10 +34,11 @@ use Rattle.theory.proofs.Accepted
 use Rattle.theory.proofs.BenchCases as books
 use Rattle.program.specs.Rule.{Rule, holds, ruleFormula}
 use Rattle.program.specs.Program.{Program, satisfiesProgram, programFormulas}
-use Rattle.program.specs.Image.{sizeOf, ruleCount, ruleSection, ruleKeeps, programOf, imageOf}
+use Rattle.program.specs.Image.{sizeOf, ruleCount, ruleSection, ruleKeeps, imageLength, programOf, imageOf}
 use Rattle.program.specs.Rows.{row26, programRows}
 use Rattle.program.specs.Writable.{writable}
 use Rattle.program.proofs.Accepted as program-accepted
+use Rattle.program.proofs.Lengths.{length-imageOf}
 use Rattle.program.proofs.Rules
 use Rattle.program.proofs.Reading as ReadingBack
 use Rattle.program.proofs.Writing
@@ -46,14 +49,13 @@ use Rattle.translation.specs.OneToOne.{OneToOne}
 use Rattle.translation.specs.Outcome.{ruleTotal, translateRows, extendRows}
 use Rattle.translation.proofs.Extensions
 use Rattle.translation.proofs.Demand3
-use Rattle.translation.proofs.Writable
 use Rattle.translation.proofs.Bytes
 use Rattle.translation.proofs.BenchCases as programs
 use Rattle.stable.specs.Subset.{setOf}
 use Rattle.stable.specs.Number.{numberOf}
 use Rattle.stable.specs.Listing.{setsOf as bookSets, setsRows, listing, Ascending}
 use Rattle.stable.proofs.Listings
-use Rattle.rulebook.specs.Calls.{yes, checkTheory, ChecksTheory, evaluateTheoryRows, evaluateTheory, EvaluatesTheory, checkProgram, ChecksProgram}
+use Rattle.rulebook.specs.Calls.{checkTheory, ChecksTheory, evaluateTheoryRows, evaluateTheory, EvaluatesTheory, checkProgram, ChecksProgram}
 use Rattle.rulebook.specs.Calls.{evaluateProgramRows, evaluateProgram, EvaluatesProgram, translateCallRows, translate, Translates}
 use Rattle.rulebook.specs.Calls.{extendCallRows, extend, ExtendsReading, testTheoryRows, testTheory, TestsTheory}
 use Rattle.rulebook.specs.Calls.{testProgramRows, testProgram, TestsProgram, listSetsRows, listSets, ListsSets}
@@ -155,7 +157,19 @@ row10-first candidate r = firstSuch-first 10 (λ i. wrong candidate (getD r i 0)
 accepted-book : (t : List ℕ) → none (theoryRows t) ≡ true → WellFormed (bookOf t)
 accepted-book = Accepted.accepted-wellFormed
 
--- Demand 2: truth is here-and-there's, answer sets are the equilibrium models.
+-- Demand 2: the four operations by number, truth is here-and-there's, answer sets are the equilibrium models.
+
+and-number : (x y : Value) → number (smaller x y) ≡ min (number x) (number y)
+and-number = Values.smaller-number
+
+or-number : (x y : Value) → number (larger x y) ≡ max (number x) (number y)
+or-number = Values.larger-number
+
+not-number : (x : Value) → number (negation x) ≡ cond (eqb (number x) 0) 2 0
+not-number = Values.negation-number
+
+implies-number : (x y : Value) → number (implication x y) ≡ cond (leb (number x) (number y)) 2 (number y)
+implies-number = Values.implication-number
 
 value-here : (I : Reading) (f : Formula) → (value I f ≡ Both) ↔ (truth (hereOf I) (thereOf I) here f ≡ true)
 value-here = Worlds.value-here
@@ -213,31 +227,46 @@ module _ (b : Book) (ok : WellFormed b) where
       → OneToOne (b .atoms) (flat b .size) (bookFormulas b ++ Γ) (programFormulas (flat b) ++ Γ)
   one-to-one = Demand3.one-to-one b ok
 
--- Demand 3 of the bytes, for every theory image that the check accepts: p is the image that translation writes, x what extension writes for the reading r.
+-- Demand 3 of the bytes. A translation that no row refuses leaves the program p at the start of its output, 16 + 10K bytes.
 
-module _ (t : List ℕ) (ok : none (theoryRows t) ≡ true) where
+module _ (t o : List ℕ) (ok : none (translateCallRows t o) ≡ true) where
   abbrev p : List ℕ
-  p = imageOf (flat (bookOf t))
+  p = take (imageLength (translate t o .answer .result)) (translate t o .out)
 
-  abbrev x : (r : List ℕ) → List ℕ
-  x r = map number (extension (bookOf t) (readingOf r))
+  translate-wrote : p ≡ imageOf (flat (bookOf t))
+  translate-wrote = Outcome.written-part (translateCallRows t o) (ruleTotal t) imageLength (imageOf (flat (bookOf t))) o (length-imageOf (flat (bookOf t))) ok
+
+  theory-accepted : none (theoryRows t) ≡ true
+  theory-accepted = none-split (theoryRows t) (translateRows t (length o)) ok .0
 
   translate-checked : checkProgram p ≡ accepted 1
-  translate-checked = answer-none (programRows p) 1 (Writable.translated-accepted t ok)
+  translate-checked = answer-none (programRows p) 1 (Bytes.program-accepted t theory-accepted p translate-wrote)
 
   translate-read-back : programOf p ≡ flat (bookOf t)
-  translate-read-back = Writable.translated-read t ok
-
-  bytes-satisfied : (r : List ℕ) → none (readingRows (atomCount t) r) ≡ true → evaluateProgram p (x r) ≡ evaluateTheory t r
-  bytes-satisfied r read = Bytes.bytes-evaluated t ok r read yes
-
-  bytes-only-one : (r : List ℕ) → none (readingRows (atomCount t) r) ≡ true
-      → (j : List ℕ) → none (readingRows (sizeOf p) j) ≡ true → take (atomCount t) j ≡ r → satisfiesProgram (readingOf j) (programOf p) ≡ true → j ≡ x r
-  bytes-only-one = Bytes.bytes-only-one t ok
+  translate-read-back = Bytes.program-read t theory-accepted p translate-wrote
 
   bytes-one-to-one : (Γ : List Formula) → AllOver (atomCount t) Γ
       → OneToOne (atomCount t) (sizeOf p) (bookFormulas (bookOf t) ++ Γ) (programFormulas (programOf p) ++ Γ)
-  bytes-one-to-one = Bytes.bytes-one-to-one t ok
+  bytes-one-to-one = Bytes.bytes-one-to-one t theory-accepted p translate-wrote
+
+  -- An extension that no row refuses leaves the reading x of atoms and labels, B bytes: the program answers on it what the theory answers on r,
+  -- and it is the only one that goes on from r and satisfies the program.
+
+  module _ (r e : List ℕ) (fits : none (extendCallRows t r e) ≡ true) where
+    abbrev x : List ℕ
+    x = take (extend t r e .answer .result) (extend t r e .out)
+
+    reading-accepted : none (readingRows (atomCount t) r) ≡ true
+    reading-accepted = Bytes.extendRows-reading t r (length e) (none-split (theoryRows t) (extendRows t r (length e)) fits .1)
+
+    extend-wrote : x ≡ map number (extension (bookOf t) (readingOf r))
+    extend-wrote = Outcome.written-part (extendCallRows t r e) (flat (bookOf t) .size) (λ n. n) _ e (Bytes.length-extension t r reading-accepted) fits
+
+    bytes-satisfied : evaluateProgram p x ≡ evaluateTheory t r
+    bytes-satisfied = Bytes.bytes-evaluated t theory-accepted p translate-wrote r reading-accepted x extend-wrote
+
+    bytes-only-one : (j : List ℕ) → evaluateProgram p j ≡ accepted 1 → take (atomCount t) j ≡ r → j ≡ x
+    bytes-only-one = Bytes.bytes-only-one t theory-accepted p translate-wrote r reading-accepted x extend-wrote
 
 -- P1 to P9: one table, one claim; and the same of their flat programs, labels dropped.
 

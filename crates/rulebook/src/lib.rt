@@ -1,7 +1,8 @@
 //! The public calls. Each takes any bytes in every slice, trusts no earlier check, and has no `requires`.
 use refusal::Answer;
 ghost use mathlib.Core.Path.{_≡_};
-ghost use Rattle.rulebook.specs.Calls.{yes, ChecksTheory, EvaluatesTheory, Translates, ExtendsReading, TestsTheory, ListsSets, ChecksProgram, EvaluatesProgram, TestsProgram};
+ghost use Rattle.refusal.specs.Table.{yes};
+ghost use Rattle.rulebook.specs.Calls.{ChecksTheory, EvaluatesTheory, Translates, ExtendsReading, TestsTheory, ListsSets, ChecksProgram, EvaluatesProgram, TestsProgram};
 
 // Checks a theory image.
 #[no_mangle]

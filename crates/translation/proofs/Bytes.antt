@@ -7,9 +7,9 @@ use native.Mathlib.Omega.{arith}
 use lib.Dec.{ltb}
 use lib.ListN.{length, getD, take, length-map, List·getD-map}
 use borrow.Author.Tests.{le-ltb, eq-eqb, ltb-false}
-use Rattle.refusal.specs.Table.{none, answer, accepted}
-use Rattle.refusal.specs.Rows.{wrong, argumentRows, readingRows}
-use Rattle.refusal.proofs.Table.{answer-both}
+use Rattle.refusal.specs.Table.{none, yes, answer, accepted}
+use Rattle.refusal.specs.Rows.{wrong, row8, row14, argumentRows, readingRows}
+use Rattle.refusal.proofs.Table.{answer-both, answer-yes, none-cons, none-split}
 use Rattle.refusal.proofs.First.{firstSuch-none}
 use Rattle.refusal.proofs.Rows.{none-argumentRows}
 use Rattle.logic.specs.declared.Value.the-variants.{Neither}
@@ -28,6 +28,7 @@ use Rattle.program.specs.Rows.{programRows}
 use Rattle.translation.specs.Flat.{flat}
 use Rattle.translation.specs.Extension.{extend, Extends}
 use Rattle.translation.specs.OneToOne.{OneToOne}
+use Rattle.translation.specs.Outcome.{extendRows}
 use Rattle.translation.proofs.Extensions.{length-extend}
 use Rattle.translation.proofs.Demand3.{extension-satisfies, extension-only, one-to-one}
 use Rattle.translation.proofs.Writable.{translated-accepted, translated-read}
@@ -63,47 +64,65 @@ atoms-are : (t : List ℕ) → bookOf t .atoms ≡ atomCount t
 unfolding bookOf
 atoms-are t = refl
 
--- A theory image that the check accepts.
-module _ (t : List ℕ) (ok : none (theoryRows t) ≡ true) where
-  size-is : sizeOf (imageOf (flat (bookOf t))) ≡ flat (bookOf t) .size
+-- An extension that is not refused has a reading that is not refused.
+pub extendRows-reading : (t r : List ℕ) (room : ℕ) → none (extendRows t r room) ≡ true → none (readingRows (atomCount t) r) ≡ true
+unfolding extendRows
+extendRows-reading t r room h =
+    let B : ℕ = flat (bookOf t) .size in
+    none-split (readingRows (atomCount t) r) (row8 B room ∷ []) (none-cons (row14 B) (readingRows (atomCount t) r ++ (row8 B room ∷ [])) h .1) .0
+
+-- The extension of an accepted reading has B bytes.
+module _ (t r : List ℕ) (read : none (readingRows (atomCount t) r) ≡ true) where
+  long : length (readingOf r) ≡ bookOf t .atoms
+  long = length-map r ofByte ∙ none-argumentRows false (atomCount t) r read .0 ∙ sym (atoms-are t)
+
+  pub length-extension : length (map number (extend (bookOf t) (readingOf r))) ≡ flat (bookOf t) .size
+  length-extension = length-map (extend (bookOf t) (readingOf r)) number ∙ length-extend (bookOf t) (readingOf r) long
+
+-- A theory image that the check accepts, and the image of its program.
+module _ (t : List ℕ) (ok : none (theoryRows t) ≡ true) (p : List ℕ) (wrote : p ≡ imageOf (flat (bookOf t))) where
+  -- The program's check accepts it, and reading it gives the flat program.
+  pub program-accepted : none (programRows p) ≡ true
+  program-accepted = rw wrote (translated-accepted t ok)
+
+  pub program-read : programOf p ≡ flat (bookOf t)
+  program-read = rw wrote (translated-read t ok)
+
+  size-is : sizeOf p ≡ flat (bookOf t) .size
   unfolding programOf
-  size-is = ap (λ (p : Program). p .size) (translated-read t ok)
-
-  -- A reading of the theory's atoms.
-  module _ (r : List ℕ) (read : none (readingRows (atomCount t) r) ≡ true) where
-    long : length (readingOf r) ≡ bookOf t .atoms
-    long = length-map r ofByte ∙ none-argumentRows false (atomCount t) r read .0 ∙ sym (atoms-are t)
-
-    -- The program answers on the extension what the theory answers on the reading,
-    pub bytes-satisfied : satisfiesProgram (readingOf (map number (extend (bookOf t) (readingOf r)))) (programOf (imageOf (flat (bookOf t))))
-        ≡ satisfies (readingOf r) (bookFormulas (bookOf t))
-    bytes-satisfied = rw (readingOf-number (extend (bookOf t) (readingOf r)), translated-read t ok)
-        (iff-equal _ _ (extension-satisfies (bookOf t) (Accepted.accepted-wellFormed t ok) (readingOf r) long))
-
-    pub extension-accepted : none (readingRows (sizeOf (imageOf (flat (bookOf t)))) (map number (extend (bookOf t) (readingOf r)))) ≡ true
-    extension-accepted = rw size-is (reading-accepted (extend (bookOf t) (readingOf r)) (flat (bookOf t) .size) (length-extend (bookOf t) (readingOf r) long))
-
-    -- as the calls' answers say it,
-    pub bytes-evaluated : (f : Bool → ℕ)
-        → answer (programRows (imageOf (flat (bookOf t))) ++ readingRows (sizeOf (imageOf (flat (bookOf t)))) (map number (extend (bookOf t) (readingOf r))))
-        (f (satisfiesProgram (readingOf (map number (extend (bookOf t) (readingOf r)))) (programOf (imageOf (flat (bookOf t))))))
-        ≡ answer (theoryRows t ++ readingRows (atomCount t) r) (f (satisfies (readingOf r) (bookFormulas (bookOf t))))
-    bytes-evaluated f =
-        answer-both (programRows (imageOf (flat (bookOf t)))) _ _ (translated-accepted t ok) extension-accepted
-        ∙ ap (λ b. accepted (f b)) bytes-satisfied
-        ∙ sym (answer-both (theoryRows t) (readingRows (atomCount t) r) _ ok read)
-
-    -- and no other reading of its atoms and labels that goes on from this one satisfies it.
-    pub bytes-only-one : (j : List ℕ) → none (readingRows (sizeOf (imageOf (flat (bookOf t)))) j) ≡ true → take (atomCount t) j ≡ r
-        → satisfiesProgram (readingOf j) (programOf (imageOf (flat (bookOf t)))) ≡ true → j ≡ map number (extend (bookOf t) (readingOf r))
-    bytes-only-one j reads e h =
-        let right = none-argumentRows false (sizeOf (imageOf (flat (bookOf t)))) j reads in
-        let extends : Extends (bookOf t) (readingOf r) (readingOf j)
-        = record { sized = length-map j ofByte ∙ right .0 ∙ size-is; same-atoms = rw atoms-are (take-readingOf (atomCount t) j ∙ ap readingOf e) } in
-        sym (number-readingOf j (right .1))
-        ∙ ap (map number) (extension-only (bookOf t) (Accepted.accepted-wellFormed t ok) (readingOf r) (readingOf j) extends (rw (translated-read t ok) at h))
+  size-is = ap (λ (q : Program). q .size) program-read
 
   -- The answer sets match one to one beside further formulas over the theory's atoms.
   pub bytes-one-to-one : (Γ : List Formula) → AllOver (atomCount t) Γ
-      → OneToOne (atomCount t) (sizeOf (imageOf (flat (bookOf t)))) (bookFormulas (bookOf t) ++ Γ) (programFormulas (programOf (imageOf (flat (bookOf t)))) ++ Γ)
-  bytes-one-to-one Γ over = rw (size-is, translated-read t ok, ← atoms-are t) (one-to-one (bookOf t) (Accepted.accepted-wellFormed t ok) Γ (rw atoms-are over))
+      → OneToOne (atomCount t) (sizeOf p) (bookFormulas (bookOf t) ++ Γ) (programFormulas (programOf p) ++ Γ)
+  bytes-one-to-one Γ over = rw (size-is, program-read, ← atoms-are t) (one-to-one (bookOf t) (Accepted.accepted-wellFormed t ok) Γ (rw atoms-are over))
+
+  -- A reading of the theory's atoms, and its extension.
+  module _ (r : List ℕ) (read : none (readingRows (atomCount t) r) ≡ true) (x : List ℕ) (extended : x ≡ map number (extend (bookOf t) (readingOf r))) where
+    accepted-x : none (readingRows (sizeOf p) x) ≡ true
+    accepted-x = rw (extended, size-is) (reading-accepted (extend (bookOf t) (readingOf r)) (flat (bookOf t) .size) (length-extend (bookOf t) (readingOf r) (long t r read)))
+
+    satisfied-x : satisfiesProgram (readingOf x) (programOf p) ≡ satisfies (readingOf r) (bookFormulas (bookOf t))
+    satisfied-x = rw (extended, readingOf-number (extend (bookOf t) (readingOf r)), program-read)
+        (iff-equal _ _ (extension-satisfies (bookOf t) (Accepted.accepted-wellFormed t ok) (readingOf r) (long t r read)))
+
+    -- The program answers on the extension what the theory answers on the reading,
+    pub bytes-evaluated : answer (programRows p ++ readingRows (sizeOf p) x) (yes (satisfiesProgram (readingOf x) (programOf p)))
+        ≡ answer (theoryRows t ++ readingRows (atomCount t) r) (yes (satisfies (readingOf r) (bookFormulas (bookOf t))))
+    bytes-evaluated =
+        answer-both (programRows p) _ _ program-accepted accepted-x
+        ∙ ap (λ b. accepted (yes b)) satisfied-x
+        ∙ sym (answer-both (theoryRows t) (readingRows (atomCount t) r) _ ok read)
+
+    -- and no other reading of its atoms and labels that goes on from this one satisfies it.
+    pub bytes-only-one : (j : List ℕ) → answer (programRows p ++ readingRows (sizeOf p) j) (yes (satisfiesProgram (readingOf j) (programOf p))) ≡ accepted 1
+        → take (atomCount t) j ≡ r → j ≡ x
+    unfolding programRows argumentRows
+    bytes-only-one j says e =
+        let both = answer-yes (programRows p ++ readingRows (sizeOf p) j) (satisfiesProgram (readingOf j) (programOf p)) refl says in
+        let right = none-argumentRows false (sizeOf p) j (none-split (programRows p) (readingRows (sizeOf p) j) (both .0) .1) in
+        let extends : Extends (bookOf t) (readingOf r) (readingOf j)
+        = record { sized = length-map j ofByte ∙ right .0 ∙ size-is; same-atoms = rw atoms-are (take-readingOf (atomCount t) j ∙ ap readingOf e) } in
+        sym (number-readingOf j (right .1))
+        ∙ ap (map number) (extension-only (bookOf t) (Accepted.accepted-wellFormed t ok) (readingOf r) (readingOf j) extends (rw program-read at (both .1)))
+        ∙ sym extended

@@ -6,7 +6,7 @@ use Prim.Native.Nat.{ℕ}
 use lib.ListN.{length, take, drop}
 use Rattle.refusal.specs.declared.Answer.{Answer}
 use Rattle.refusal.specs.Table.{Row, answer, none}
-use Rattle.refusal.proofs.Table.{answer-past, answer-refused, none-past, none-refused}
+use Rattle.refusal.proofs.Table.{answer-past, answer-none, answer-refused, none-past, none-refused}
 use Rattle.wire.specs.Wire.{over}
 use Rattle.wire.specs.Outcome.{Outcome, outcome, written}
 use Rattle.wire.proofs.Laws.{take-over, drop-over}
@@ -23,6 +23,11 @@ written-refused rows x bytes out h = rw (none-refused rows x refl h)
 pub written-accepted : (rows : List Row) (bytes out : List ℕ) → none rows ≡ true
     → (take (length bytes) (written rows bytes out) ≡ bytes) × (drop (length bytes) (written rows bytes out) ≡ drop (length bytes) out)
 written-accepted rows bytes out n = rw n (take-over bytes out, drop-over bytes out)
+
+-- so where the result x tells the length of the bytes by f, that part of the output is what was written
+pub written-part : (rows : List Row) (x : ℕ) (f : ℕ → ℕ) (bytes out : List ℕ) → length bytes ≡ f x → none rows ≡ true
+    → take (f (answer rows x .result)) (written rows bytes out) ≡ bytes
+written-part rows x f bytes out e n = rw (answer-none rows x n, ← e) (written-accepted rows bytes out n .0)
 
 module _ (rs qs : List Row) (bytes out : List ℕ) (y : ℕ) where
   pub outcome-refused : (x : ℕ) {a : Answer} → a ≡ answer rs x → (a .number ≡ 0 → ⊥) → outcome a out ≡ outcome (answer (rs ++ qs) y) (written (rs ++ qs) bytes out)

@@ -5,14 +5,13 @@ use mathlib.Core.List.{List}
 use Prim.Native.Nat.{ℕ}
 use denote.Ref.{now}
 use borrow.Author.Needs.{needs}
-use Rattle.refusal.specs.Table.{Row, none, answer, accepted}
+use Rattle.refusal.specs.Table.{Row, none, answer, accepted, yes}
 use Rattle.refusal.specs.Rows.{readingRows}
 use Rattle.refusal.proofs.Table.{answer-refused, answer-later, answer-both, none-accepted}
 use Rattle.refusal.proofs.Rows.{numbered-argumentRows, none-argumentRows}
 use Rattle.program.specs.Image.{sizeOf}
 use Rattle.program.specs.Rows.{programRows}
 use Rattle.program.proofs.Accepted.{numbered-programRows}
-use Rattle.rulebook.specs.Calls.{yes}
 use Rattle.rulebook.proofs.rulebook_evaluate_program.Statement.{statement}
 use Rattle.rulebook.proofs.rulebook_evaluate_program.Tie as tie
 

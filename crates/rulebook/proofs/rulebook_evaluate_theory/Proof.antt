@@ -6,7 +6,7 @@ use Prim.Native.Nat.{ℕ}
 use native.Mathlib.Omega.{arith}
 use denote.Ref.{now}
 use borrow.Author.Needs.{needs}
-use Rattle.refusal.specs.Table.{Row, none, answer, accepted}
+use Rattle.refusal.specs.Table.{Row, none, answer, accepted, yes}
 use Rattle.refusal.specs.Rows.{readingRows}
 use Rattle.refusal.proofs.Table.{answer-refused, answer-later, answer-both, none-accepted}
 use Rattle.refusal.proofs.Rows.{numbered-argumentRows, none-argumentRows}
@@ -14,7 +14,6 @@ use Rattle.theory.specs.Image.{atomCount}
 use Rattle.theory.specs.Rows.{theoryRows}
 use Rattle.theory.proofs.Rows.{numbered-theoryRows}
 use Rattle.theory.proofs.Accepted
-use Rattle.rulebook.specs.Calls.{yes}
 use Rattle.rulebook.proofs.rulebook_evaluate_theory.Statement.{statement}
 use Rattle.rulebook.proofs.rulebook_evaluate_theory.Tie as tie
 

@@ -6,7 +6,7 @@ use Prim.Native.Nat.{ℕ, _≤_}
 use native.Mathlib.Omega.{arith}
 use denote.Ref.{now}
 use borrow.Author.Needs.{needs}
-use Rattle.refusal.specs.Table.{none, answer, accepted, refused}
+use Rattle.refusal.specs.Table.{none, answer, accepted, refused, yes}
 use Rattle.refusal.specs.Limits.{mostTrue}
 use Rattle.refusal.specs.Rows.{candidateRows, countTrue}
 use Rattle.refusal.proofs.Table.{answer-refused, none-accepted}
@@ -14,7 +14,6 @@ use Rattle.refusal.proofs.Rows.{numbered-argumentRows}
 use Rattle.program.specs.Image.{sizeOf}
 use Rattle.program.specs.Rows.{programRows}
 use Rattle.program.proofs.Accepted.{numbered-programRows}
-use Rattle.rulebook.specs.Calls.{yes}
 use Rattle.rulebook.proofs.Candidate.{candidate-refused, candidate-large, candidate-accepted}
 use Rattle.rulebook.proofs.rulebook_test_program.Statement.{statement}
 use Rattle.rulebook.proofs.rulebook_test_program.Tie as tie

@@ -6,7 +6,7 @@ use Prim.Native.Nat.{ℕ, _≤_}
 use native.Mathlib.Omega.{arith}
 use denote.Ref.{now}
 use borrow.Author.Needs.{needs}
-use Rattle.refusal.specs.Table.{none, answer, accepted, refused}
+use Rattle.refusal.specs.Table.{none, answer, accepted, refused, yes}
 use Rattle.refusal.specs.Limits.{mostTrue}
 use Rattle.refusal.specs.Rows.{candidateRows, countTrue}
 use Rattle.refusal.proofs.Table.{answer-refused, none-accepted}
@@ -15,7 +15,6 @@ use Rattle.theory.specs.Image.{atomCount}
 use Rattle.theory.specs.Rows.{theoryRows}
 use Rattle.theory.proofs.Rows.{numbered-theoryRows}
 use Rattle.theory.proofs.Accepted
-use Rattle.rulebook.specs.Calls.{yes}
 use Rattle.rulebook.proofs.Candidate.{candidate-refused, candidate-large, candidate-accepted}
 use Rattle.rulebook.proofs.rulebook_test_theory.Statement.{statement}
 use Rattle.rulebook.proofs.rulebook_test_theory.Tie as tie
