@@ -18,9 +18,9 @@ use Rattle.theory.specs.Rows.{theoryRows}
 use Rattle.program.specs.Program.{satisfiesProgram, programFormulas}
 use Rattle.program.specs.Image.{sizeOf, programOf, imageOf}
 use Rattle.program.specs.Rows.{programRows}
-use Rattle.translation.specs.Flat.{flat}
+use Rattle.flat.specs.Flat.{flat}
+use Rattle.flat.specs.Extension.{extend as extension}
 use Rattle.translation.specs.Outcome.{ruleTotal, translateRows, extendRows}
-use Rattle.translation.specs.Extension.{extend as extension}
 use Rattle.stable.specs.Subset.{setOf}
 use Rattle.stable.specs.Listing.{setsOf, setsRows, listing}
 

@@ -42,15 +42,15 @@ use Rattle.program.proofs.Lengths.{length-imageOf}
 use Rattle.program.proofs.Rules
 use Rattle.program.proofs.Reading as ReadingBack
 use Rattle.program.proofs.Writing
-use Rattle.translation.specs.Table.{labelCount}
-use Rattle.translation.specs.Flat.{flat}
-use Rattle.translation.specs.Extension.{extend as extension, Extends, firstLabel}
-use Rattle.translation.specs.OneToOne.{OneToOne}
+use Rattle.flat.specs.Table.{labelCount}
+use Rattle.flat.specs.Flat.{flat}
+use Rattle.flat.specs.Extension.{extend as extension, Extends, firstLabel}
+use Rattle.flat.specs.OneToOne.{OneToOne}
+use Rattle.flat.proofs.Extensions
+use Rattle.flat.proofs.Demand3
+use Rattle.flat.proofs.BenchCases as programs
 use Rattle.translation.specs.Outcome.{ruleTotal, translateRows, extendRows}
-use Rattle.translation.proofs.Extensions
-use Rattle.translation.proofs.Demand3
 use Rattle.translation.proofs.Bytes
-use Rattle.translation.proofs.BenchCases as programs
 use Rattle.stable.specs.Subset.{setOf}
 use Rattle.stable.specs.Number.{numberOf}
 use Rattle.stable.specs.Listing.{setsOf as bookSets, setsRows, listing, Ascending}

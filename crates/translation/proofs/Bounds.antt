@@ -8,8 +8,8 @@ use Rattle.refusal.proofs.Table.{cases}
 use Rattle.theory.specs.Book.{Kind, falseKind, trueKind, atomKind, notKind, andKind, orKind, impliesKind}
 use Rattle.theory.specs.Image.{nodeIn, rootIn}
 use Rattle.program.specs.Rule.{RuleOf}
-use Rattle.translation.specs.Table.{Slot, rows}
-use Rattle.translation.specs.Flat.{Term, removes, simplify, fill, fact, mapRule, instances, termAt}
+use Rattle.flat.specs.Table.{Slot, rows}
+use Rattle.flat.specs.Flat.{Term, removes, simplify, fill, fact, mapRule, instances, termAt}
 use Rattle.translation.specs.Turns.{nextTo, termsTo, rulesTo, factsTo}
 use Rattle.translation.proofs.Turns.{rulesTo-none, rulesTo-more, factsTo-none, factsTo-more}
 

@@ -25,12 +25,12 @@ use Rattle.theory.proofs.NodeValues.{readingOf-number}
 use Rattle.program.specs.Program.{Program, satisfiesProgram, programFormulas}
 use Rattle.program.specs.Image.{sizeOf, programOf, imageOf}
 use Rattle.program.specs.Rows.{programRows}
-use Rattle.translation.specs.Flat.{flat}
-use Rattle.translation.specs.Extension.{extend, Extends}
-use Rattle.translation.specs.OneToOne.{OneToOne}
+use Rattle.flat.specs.Flat.{flat}
+use Rattle.flat.specs.Extension.{extend, Extends}
+use Rattle.flat.specs.OneToOne.{OneToOne}
+use Rattle.flat.proofs.Extensions.{length-extend}
+use Rattle.flat.proofs.Demand3.{extension-satisfies, extension-only, one-to-one}
 use Rattle.translation.specs.Outcome.{extendRows}
-use Rattle.translation.proofs.Extensions.{length-extend}
-use Rattle.translation.proofs.Demand3.{extension-satisfies, extension-only, one-to-one}
 use Rattle.translation.proofs.Writable.{translated-accepted, translated-read}
 
 -- Bytes of readings.

@@ -3,7 +3,7 @@ use mathlib.Core.Path.{_≡_, refl, sym, ap, ap₂, _∙_}
 use mathlib.Core.Logic.{⊎-elim}
 use mathlib.Core.Bool.{true, false, or-false}
 use mathlib.Core.List.{List, [], _∷_, _++_, map, map-append, append-assoc, append-nil}
-use Prim.Native.Nat.{ℕ, zero, suc, _+_, _*_, _≤_, _<_}
+use Prim.Native.Nat.{ℕ, zero, suc, _+_, _≤_, _<_}
 use native.Mathlib.Decide.{le-ind}
 use native.Mathlib.Numerals.{add-one}
 use native.Mathlib.Omega.{arith}
@@ -25,14 +25,15 @@ use Rattle.theory.specs.Image.{atomCount, nodeCount, nodeSection, nodeIn, bookO
 use Rattle.theory.specs.Rows.{theoryRows}
 use Rattle.theory.specs.NodeValues.{valuesTo, nodeValues}
 use Rattle.theory.proofs.NodeValues.{value-formula, length-valuesTo, valuesTo-more, nodeValues-bookOf}
-use Rattle.translation.specs.Table.{labelCount}
-use Rattle.translation.specs.Extension.{meanings, labels, labelsFrom, extend}
+use Rattle.flat.specs.Table.{labelCount}
+use Rattle.flat.specs.Extension.{meanings, labels, labelsFrom, extend}
+use Rattle.flat.proofs.Extensions.{length-extend}
+use Rattle.table.proofs.Rows.{labels-count}
 use Rattle.translation.specs.Outcome.{sizeOf}
 use Rattle.translation.specs.Turns.{Nodes, labelBytes, labelsTo}
-use Rattle.translation.proofs.Extensions.{length-extend}
 use Rattle.translation.proofs.Sections.{nodes-accepted}
 use Rattle.translation.proofs.Turns.{labelsTo-none, labelsTo-more}
-use Rattle.translation.proofs.NodeTerms.{operands, node-fits, node-known}
+use Rattle.translation.proofs.NodeTerms.{operands, node-fits, kind-known}
 
 -- ---- one node more
 
@@ -81,7 +82,7 @@ module _ (A : ℕ) (s : List ℕ) (N : ℕ) (ok : Nodes A s N) (I : Reading) (va
       let n = nodeIn s k in
       let fs = formulas [] (upTo (nodeIn s) k) in
       let fit = node-fits A s N ok k h in
-      rw (meanings-bytes I (n .kind) (formula fs n) (formulaAt fs (n .right)), node-known A s N ok k h (getD s (k * 6) 0) refl .1)
+      rw (meanings-bytes I (n .kind) (formula fs n) (formulaAt fs (n .right)), labels-count _ (kind-known A s N ok k h))
       (⊎-elim (λ e. rw (e .1)) (λ l. rw (own-value k h, earlier-value k (n .right) (omega arith) (l .1)))
       (operands A k (n .kind) (n .left) (n .right) (fit .0) (fit .1)))
 

@@ -1,13 +1,4 @@
-pub mod Simplify
-pub mod OneNode
-pub mod Rules
-pub mod Extensions
-pub mod Demand3
-pub mod BenchCases
-pub mod Shapes
-pub mod OneRule
 pub mod Turns
-pub mod Names
 pub mod NodeTerms
 pub mod Bounds
 pub mod Writing

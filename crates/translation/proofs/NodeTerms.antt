@@ -11,16 +11,17 @@ use lib.Dec.{eqb, ltb}
 use lib.ListN.{getD, length, take, length-map, List·getD-append, List·getD-map}
 use lib.Seq.{getD-take}
 use borrow.Author.Tests.{ltb-true}
+use Rattle.refusal.specs.Limits.{mostB}
 use Rattle.logic.proofs.Bools.{&&-split}
 use Rattle.theory.specs.Book.{Kind, falseKind, trueKind, atomKind, notKind, andKind, orKind, impliesKind, leftLimit, rightLimit}
 use Rattle.theory.specs.Image.{nodeIn}
-use Rattle.translation.specs.Table.{Slot, x, y, L, M, rows, labelCount}
-use Rattle.translation.specs.Flat.{Term, constant, name, fill, instances, termAt, nodeRules, termOf, term}
-use Rattle.translation.specs.Shapes.{labelsOf}
-use Rattle.translation.specs.OneRule.{code, decode, filled}
+use Rattle.flat.specs.Table.{Slot, x, y, L, M, rows, labelCount}
+use Rattle.flat.specs.Flat.{Term, constant, name, fill, instances, termAt, nodeRules, termOf, term}
+use Rattle.table.specs.Shapes.{kinds, labelsIn}
+use Rattle.table.specs.OneRule.{code, decode, filled}
+use Rattle.table.proofs.Rows.{labels-count, labels-few}
+use Rattle.table.proofs.OneRule.{Below, decode-code}
 use Rattle.translation.specs.Turns.{Nodes, nextTo, termsTo, slotTerms, kindRules}
-use Rattle.translation.proofs.Shapes.{labels-count, labels-few}
-use Rattle.translation.proofs.OneRule.{Below, decode-code}
 use Rattle.translation.proofs.Turns.{nextTo-none, nextTo-more, termsTo-none, termsTo-more, length-termsTo}
 
 -- ---- by kind
@@ -81,8 +82,15 @@ below-more B (u ∷ ts) t h l (suc j) = below-more B ts t (λ i. h (suc i)) l j
 
 -- ---- of an accepted image
 
+-- What a turn knows of node k by an index of the kinds and its kind's byte: the kind has a row, which counts its labels, and there is room for them.
+pub record Known (A : ℕ) (s : List ℕ) (k : ℕ) (index : List (List ℕ)) (kind : ℕ) : Type 0 where
+  pub row : kind < 7
+  pub labels : labelsIn index kind ≡ labelCount (nodeIn s k .kind)
+  pub few : labelsIn index kind ≤ 2
+  pub low : nextTo A s k ≤ mostB
+
 module _ (A : ℕ) (s : List ℕ) (N : ℕ) (ok : Nodes A s N) where
-  kind-known : (k : ℕ) → k < N → getD s (k * 6) 0 < 7
+  pub kind-known : (k : ℕ) → k < N → getD s (k * 6) 0 < 7
   kind-known k h = ltb-true _ _ (&&-split (ltb (getD s (k * 6) 0) 7) _ (ok .keep k h) .0)
 
   pub node-fits : (k : ℕ) → k < N → (nodeIn s k .left < leftLimit A k (nodeIn s k .kind)) × (nodeIn s k .right < rightLimit k (nodeIn s k .kind))
@@ -102,12 +110,12 @@ module _ (A : ℕ) (s : List ℕ) (N : ℕ) (ok : Nodes A s N) where
   next-le zero = rw nextTo-none (omega arith)
   next-le (suc k) = rw (← add-one, nextTo-more) (omega (arith, labelCount-le (nodeIn s k .kind), next-le k))
 
-  -- What a turn knows of its node by the kind's byte: the kind has a row, which counts its labels, and there is room for them.
-  pub node-known : (k : ℕ) → k < N → (kind : ℕ) → kind ≡ getD s (k * 6) 0
-      → (kind < 7) × (labelsOf kind ≡ labelCount (nodeIn s k .kind)) × (labelsOf kind ≤ 2) × (nextTo A s k ≤ 3072)
-  node-known k h kind e =
-      let row : getD s (k * 6) 0 < 7 = kind-known k h in
-      rw e (row, labels-count _ row, labels-few _ row, omega (arith, next-le k, ok .few, ok .few-atoms))
+  pub node-known : (k : ℕ) → k < N → (index : List (List ℕ)) (kind : ℕ) → index ≡ kinds → kind ≡ getD s (k * 6) 0 → Known A s k index kind
+  node-known k h index kind i e =
+      let r : getD s (k * 6) 0 < 7 = kind-known k h in
+      let known : Known A s k kinds (getD s (k * 6) 0)
+      = record { row = r; labels = labels-count _ r; few = labels-few _ r; low = omega (arith, next-le k, ok .few, ok .few-atoms) } in
+      rw (i, e) known
 
   -- A node's term has a number of two bytes.
   pub code-small : (k : ℕ) → k < N → code (term (nextTo A s k) (nodeIn s k)) < 65536

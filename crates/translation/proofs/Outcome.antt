@@ -16,8 +16,8 @@ use Rattle.logic.specs.Formula.{readingOf}
 use Rattle.logic.proofs.Bools.{false-of}
 use Rattle.theory.specs.Image.{atomCount, bookOf}
 use Rattle.program.specs.Image.{imageLength, imageOf}
-use Rattle.translation.specs.Flat.{flat}
-use Rattle.translation.specs.Extension.{extend}
+use Rattle.flat.specs.Flat.{flat}
+use Rattle.flat.specs.Extension.{extend}
 use Rattle.translation.specs.Outcome.{sizeOf, ruleTotal, translateRows, translated, extendRows, extended}
 
 module _ (t out : List ℕ) where

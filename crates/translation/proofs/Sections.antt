@@ -11,7 +11,7 @@ use Rattle.theory.specs.Rows.{theoryRows}
 use Rattle.program.specs.Image.{rulesBytes}
 use Rattle.program.proofs.Lengths.{rulesBytes-append}
 use Rattle.theory.proofs.Accepted.{accepted}
-use Rattle.translation.specs.Flat.{flat}
+use Rattle.flat.specs.Flat.{flat}
 use Rattle.translation.specs.Outcome.{ruleTotal}
 use Rattle.translation.specs.Turns.{Nodes, Roots, rulesTo, factsTo, scratchTerm, Numbered}
 use Rattle.translation.proofs.Turns.{flat-rules}

@@ -22,12 +22,12 @@ use Rattle.program.specs.Image.{literals, programOf, imageOf}
 use Rattle.program.specs.Rows.{outside, programRows}
 use Rattle.program.specs.Writable.{allBelow, ruleWritable, rulesWritable, writable}
 use Rattle.program.proofs.Reading.{imageOf-accepted, programOf-imageOf}
-use Rattle.translation.specs.Table.{Slot, x, y, L, M, rows, labelCount}
-use Rattle.translation.specs.Flat.{Term, constant, name, names, removes, reduce, simplify, fill, fact, mapRule, instances, termAt, flat}
-use Rattle.translation.specs.OneRule.{code}
+use Rattle.flat.specs.Table.{Slot, x, y, L, M, rows, labelCount}
+use Rattle.flat.specs.Flat.{Term, constant, name, names, removes, reduce, simplify, fill, fact, mapRule, instances, termAt, flat}
+use Rattle.table.specs.OneRule.{code}
+use Rattle.table.proofs.OneRule.{Below, length-names}
 use Rattle.translation.specs.Outcome.{sizeOf, ruleTotal}
 use Rattle.translation.specs.Turns.{Nodes, nextTo, termsTo, rulesTo, factsTo, Numbered}
-use Rattle.translation.proofs.OneRule.{Below, length-names}
 use Rattle.translation.proofs.Turns.{nextTo-more, rulesTo-none, rulesTo-more, factsTo-none, factsTo-more, length-termsTo, flat-size, flat-rules}
 use Rattle.translation.proofs.NodeTerms.{below-le, next-le, terms-below}
 use Rattle.translation.proofs.Sections.{nodes-accepted, ruleTotal-le}

@@ -9,8 +9,8 @@ use Rattle.logic.specs.Value.{number}
 use Rattle.logic.specs.Formula.{readingOf}
 use Rattle.theory.specs.Image.{atomCount, bookOf}
 use Rattle.program.specs.Image.{imageLength, imageOf}
-use Rattle.translation.specs.Flat.{flat}
-use Rattle.translation.specs.Extension.{extend}
+use Rattle.flat.specs.Flat.{flat}
+use Rattle.flat.specs.Extension.{extend}
 
 -- B and K of the program of a theory image.
 abbrev pub sizeOf : List ℕ → ℕ

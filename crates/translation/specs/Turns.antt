@@ -10,10 +10,10 @@ use Rattle.logic.specs.Value.{number, ofByte, negation}
 use Rattle.theory.specs.Book.{Node}
 use Rattle.theory.specs.Image.{atomCount, nodeCount, nodeSection, kindOf, nodeIn, nodeKeeps, rootIn}
 use Rattle.program.specs.Rule.{Rule}
-use Rattle.translation.specs.Table.{rows, labelCount}
-use Rattle.translation.specs.Shapes.{labelsOf, shapeRule, kindShape}
-use Rattle.translation.specs.OneRule.{code, decode, filled}
-use Rattle.translation.specs.Flat.{Term, term, instances, nodeRules, fact, simplify, labelTotal}
+use Rattle.flat.specs.Table.{rows, labelCount}
+use Rattle.flat.specs.Flat.{Term, term, instances, nodeRules, fact, simplify, labelTotal}
+use Rattle.table.specs.Shapes.{labelsOf, shapeRule, kindShape}
+use Rattle.table.specs.OneRule.{code, decode, filled}
 
 -- The nodes' section of an image that the check accepts, with A atoms and N nodes.
 pub record Nodes (A : ℕ) (s : List ℕ) (N : ℕ) : Type 0 where

@@ -3,7 +3,7 @@ use logic::Value;
 use refusal::Answer;
 ghost use mathlib.Core.Path.{_≡_};
 ghost use mathlib.Core.List.{[], _∷_, map};
-ghost use mathlib.Core.Bool.{true, cond};
+ghost use mathlib.Core.Bool.{true};
 ghost use Prim.Native.Nat.{ℕ, _+_, _*_, _≤_, _<_};
 ghost use lib.ListN.{length, getD, take};
 ghost use Rattle.refusal.specs.Table.{none, answer};
@@ -14,203 +14,19 @@ ghost use Rattle.logic.specs.Formula.{readingOf};
 ghost use Rattle.theory.specs.Image.{atomCount, nodeIn, kindOf, bookOf};
 ghost use Rattle.theory.specs.Rows.{theoryRows};
 ghost use Rattle.program.specs.Image.{rulesBytes, imageLength, imageOf};
-ghost use Rattle.translation.specs.Flat.{termOf, fact, mapRule, flat};
-ghost use Rattle.translation.specs.Extension.{extend as extension};
-ghost use Rattle.translation.specs.Shapes.{shapes, kinds, shapeRule};
-ghost use Rattle.translation.specs.OneRule.{code, decode, filled, allNames, nameIn, added, addedTo, madeOf, madeBytes};
+ghost use Rattle.flat.specs.Flat.{termOf, flat};
+ghost use Rattle.flat.specs.Extension.{extend as extension};
+ghost use Rattle.table.specs.Shapes.{shapes, kinds};
+ghost use Rattle.table.specs.OneRule.{code};
 ghost use Rattle.translation.specs.Turns.{Nodes, Roots, nextTo, termsTo, rulesTo, factsTo, scratchTerm, slotTerms, kindRules, Numbered, labelsTo};
 ghost use Rattle.translation.specs.Outcome.{sizeOf, ruleTotal, translateRows, translated, extendRows, extended};
-
-// What may stand in a slot: the terms x of left and y of right, the node's label L, and M, the label for the negation of right.
-const X: usize = 0;
-
-const Y: usize = 1;
-
-const L: usize = 2;
-
-const M: usize = 3;
-
-// A row for each rule: heads, positives, negatives, and which term in which slot; an unused slot holds 0.
-const SHAPES: [[usize; 6]; 14] = [
-    [1, 0, 1, L, X, 0],
-    [0, 2, 0, L, X, 0],
-    [1, 1, 0, X, L, 0],
-    [1, 1, 0, Y, L, 0],
-    [1, 2, 0, L, X, Y],
-    [1, 1, 0, L, X, 0],
-    [1, 1, 0, L, Y, 0],
-    [2, 1, 0, X, Y, L],
-    [1, 2, 0, Y, L, X],
-    [1, 0, 1, L, X, 0],
-    [1, 1, 0, L, Y, 0],
-    [3, 0, 0, X, M, L],
-    [1, 0, 1, M, Y, 0],
-    [0, 2, 0, M, Y, 0],
-];
-
-// Of each kind its first row, its number of rows and its number of labels.
-const KINDS: [[usize; 3]; 7] = [
-    [0, 0, 0],
-    [0, 0, 0],
-    [0, 0, 0],
-    [0, 2, 1],
-    [2, 3, 1],
-    [5, 3, 1],
-    [8, 6, 2],
-];
-
-// The terms that are constants; every other term is an atom's number or a label's.
-const FALSE: usize = 65534;
-
-const TRUE: usize = 65535;
-
-// The literals of a rule that is being made: whether the rule stays, how many slots are used, and the slots.
-pub struct Literals {
-    pub kept: bool,
-    pub used: usize,
-    pub slots: [usize; 3],
-}
-
-// A rule with its constants gone: whether it stays, its counts and its slots.
-pub struct Made {
-    pub kept: bool,
-    pub heads: usize,
-    pub positives: usize,
-    pub negatives: usize,
-    pub slots: [usize; 3],
-}
-
-// One literal more.
-fn add(literals: Literals, removing: usize, term: usize) -> Literals
-    requires { ⌜ literals .used < 3 ⌝ }
-    ensures { λ r. ⌜ r ≡ added literals removing term ⌝ }
-{
-    let used = literals.used;
-    let mut slots = literals.slots;
-    if term == removing {
-        return Literals {
-            kept: false,
-            used,
-            slots,
-        };
-    }
-    if term == FALSE {
-        return literals;
-    }
-    if term == TRUE {
-        return literals;
-    }
-    slots[used] = term;
-    Literals {
-        kept: literals.kept,
-        used: used + 1,
-        slots,
-    }
-}
-
-// The terms of `count` slots of a shape more, from the slot at `start` on.
-fn add_slots(
-    literals: Literals,
-    removing: usize,
-    shape: &[usize; 6],
-    terms: &[usize; 4],
-    start: usize,
-    count: usize,
-) -> Literals
-    requires { ⌜ (literals .used + count ≤ 3) × (start + count ≤ 6) × ((j : ℕ) → j < 6 → getD (now shape) j 0 < 4) ⌝ }
-    ensures { λ r. ⌜ r ≡ addedTo literals removing (λ j. getD (now (terms .entry)) (getD (now (shape .entry)) (start + j) 0) 0) count ⌝ }
-{
-    let mut all = literals;
-    let mut j = 0;
-    while j < count {
-        let slot = shape[start + j];
-        all = add(all, removing, terms[slot]);
-        j += 1;
-    }
-    all
-}
-
-// Are the terms of x, y, L and M all names?
-fn all_names(terms: &[usize; 4]) -> bool
-    ensures { λ r. ⌜ r ≡ allNames (now (terms .entry)) ⌝ }
-{
-    terms[0] < FALSE && (terms[1] < FALSE && (terms[2] < FALSE && terms[3] < FALSE))
-}
-
-// What stands in slot j of a rule of a shape that uses so many slots, where every term is a name.
-fn name_in(shape: &[usize; 6], terms: &[usize; 4], used: usize, j: usize) -> usize
-    requires { ⌜ (j < 3) × ((i : ℕ) → i < 6 → getD (now shape) i 0 < 4) ⌝ }
-    ensures { λ r. ⌜ r ≡ nameIn (now (shape .entry)) (now (terms .entry)) used j ⌝ }
-{
-    if j < used { terms[shape[3 + j]] } else { 0 }
-}
-
-// The rule of a shape, where the terms of x, y, L and M are all names: it stays with all its literals.
-fn make_of_names(shape: &[usize; 6], terms: &[usize; 4]) -> Made
-    requires { ⌜ (getD (now shape) 0 0 + getD (now shape) 1 0 + getD (now shape) 2 0 ≤ 3) × ((j : ℕ) → j < 6 → getD (now shape) j 0 < 4) ⌝ }
-    requires { ⌜ allNames (now terms) ≡ true ⌝ }
-    ensures { λ r. ⌜ r ≡ madeOf (mapRule (filled (now (terms .entry))) (shapeRule (now (shape .entry)))) ⌝ }
-{
-    let heads = shape[0];
-    let positives = shape[1];
-    let negatives = shape[2];
-    let used = heads + positives + negatives;
-    let slots = [
-        name_in(shape, terms, used, 0),
-        name_in(shape, terms, used, 1),
-        name_in(shape, terms, used, 2),
-    ];
-    Made {
-        kept: true,
-        heads,
-        positives,
-        negatives,
-        slots,
-    }
-}
-
-// The rule of a shape, where x, y, L and M have these terms, by the straight way where no constant is among them.
-fn make(shape: &[usize; 6], terms: &[usize; 4]) -> Made
-    requires { ⌜ (getD (now shape) 0 0 + getD (now shape) 1 0 + getD (now shape) 2 0 ≤ 3) × ((j : ℕ) → j < 6 → getD (now shape) j 0 < 4) ⌝ }
-    ensures { λ r. ⌜ r ≡ madeOf (mapRule (filled (now (terms .entry))) (shapeRule (now (shape .entry)))) ⌝ }
-{
-    if all_names(terms) {
-        return make_of_names(shape, terms);
-    }
-    make_of_terms(shape, terms)
-}
-
-// The rule of a shape, its literals added one by one, whatever the terms.
-fn make_of_terms(shape: &[usize; 6], terms: &[usize; 4]) -> Made
-    requires { ⌜ (getD (now shape) 0 0 + getD (now shape) 1 0 + getD (now shape) 2 0 ≤ 3) × ((j : ℕ) → j < 6 → getD (now shape) j 0 < 4) ⌝ }
-    ensures { λ r. ⌜ r ≡ madeOf (mapRule (filled (now (terms .entry))) (shapeRule (now (shape .entry)))) ⌝ }
-{
-    let heads = shape[0];
-    let positives = shape[1];
-    let none = Literals {
-        kept: true,
-        used: 0,
-        slots: [0, 0, 0],
-    };
-    let a = add_slots(none, TRUE, shape, terms, 3, heads);
-    let b = add_slots(a, FALSE, shape, terms, 3 + heads, positives);
-    let c = add_slots(b, TRUE, shape, terms, 3 + heads + positives, shape[2]);
-    let slots = c.slots;
-    Made {
-        kept: c.kept,
-        heads: a.used,
-        positives: b.used - a.used,
-        negatives: c.used - b.used,
-        slots,
-    }
-}
 
 // The kind of node k, and its left and right.
 fn kind_at(nodes: &[u8], k: usize) -> usize
     requires { ⌜ k * 6 + 6 ≤ length (now nodes) ⌝ }
     ensures { λ r. ⌜ r ≡ getD (now (nodes .entry)) (k * 6) 0 ⌝ }
 {
-    wide(nodes[k * 6])
+    wire::wide(nodes[k * 6])
 }
 
 fn left_at(nodes: &[u8], k: usize) -> usize
@@ -227,12 +43,6 @@ fn right_at(nodes: &[u8], k: usize) -> usize
     wire::u16_at(nodes, k * 6 + 4)
 }
 
-fn wide(byte: u8) -> usize
-    ensures { λ r. ⌜ (r ≡ byte) × (r < 256) ⌝ }
-{
-    byte as usize
-}
-
 fn wide_term(term: u16) -> usize
     ensures { λ r. ⌜ (r ≡ term) × (r < 65536) ⌝ }
 {
@@ -244,7 +54,7 @@ fn size(nodes: &[u8], count: usize, atoms: usize) -> usize
     requires { ⌜ Nodes atoms (now nodes) count ⌝ }
     ensures { λ r. ⌜ r ≡ nextTo atoms (now (nodes .entry)) count ⌝ }
 {
-    let kinds = KINDS;
+    let kinds = table::kinds();
     let mut next = atoms;
     let mut k = 0;
     while k < count {
@@ -260,8 +70,8 @@ fn term_of(kind: usize, left: usize, next: usize) -> usize
     ensures { λ r. ⌜ r ≡ code (termOf next (kindOf kind) left) ⌝ }
 {
     match kind {
-        0 => FALSE,
-        1 => TRUE,
+        0 => table::FALSE,
+        1 => table::TRUE,
         2 => left,
         _ => next,
     }
@@ -272,7 +82,7 @@ fn number(nodes: &[u8], count: usize, atoms: usize, terms: &mut [u16])
     requires { ⌜ Nodes atoms (now nodes) count × (count ≤ length (now terms)) ⌝ }
     ensures { λ _. ⌜ take count (now (terms .exit)) ≡ map code (termsTo atoms (now (nodes .entry)) count) ⌝ }
 {
-    let kinds = KINDS;
+    let kinds = table::kinds();
     let mut next = atoms;
     let mut k = 0;
     while k < count {
@@ -298,13 +108,6 @@ fn slot_terms(nodes: &[u8], k: usize, terms: &[u16; 1024], next: usize) -> [usiz
     ]
 }
 
-// How many rules stay of one that was made.
-fn stays(kept: bool) -> usize
-    ensures { λ r. ⌜ (r ≡ cond kept 1 0) × (r ≤ 1) ⌝ }
-{
-    if kept { 1 } else { 0 }
-}
-
 // How many rules a node of a kind has, where x, y, L and M have these terms: without constants, as many as its kind has rows.
 fn count_node(
     table: &[[usize; 6]; 14],
@@ -315,7 +118,7 @@ fn count_node(
     requires { ⌜ (now table ≡ shapes) × (now index ≡ kinds) × (kind < 7) ⌝ }
     ensures { λ r. ⌜ r ≡ length (kindRules (now (terms .entry)) kind) ⌝ }
 {
-    if all_names(terms) {
+    if table::all_names(terms) {
         return index[kind][1];
     }
     count_rows(table, index, kind, terms)
@@ -336,31 +139,11 @@ fn count_rows(
     let mut rules = 0;
     let mut j = 0;
     while j < count {
-        let made = make(&table[first + j], terms);
-        rules += stays(made.kept);
+        let made = table::make(&table[first + j], terms);
+        rules += table::stays(made.kept);
         j += 1;
     }
     rules
-}
-
-// The fact that holds a term, if it stays.
-fn fact_of(term: usize) -> Made
-    ensures { λ r. ⌜ r ≡ madeOf (fact (decode term)) ⌝ }
-{
-    let none = Literals {
-        kept: true,
-        used: 0,
-        slots: [0, 0, 0],
-    };
-    let head = add(none, TRUE, term);
-    let slots = head.slots;
-    Made {
-        kept: head.kept,
-        heads: head.used,
-        positives: 0,
-        negatives: 0,
-        slots,
-    }
 }
 
 // How many rules all nodes have.
@@ -368,8 +151,8 @@ fn count_rules(nodes: &[u8], count: usize, atoms: usize, terms: &[u16; 1024]) ->
     requires { ⌜ Nodes atoms (now nodes) count × (take count (now terms) ≡ map code (termsTo atoms (now nodes) count)) ⌝ }
     ensures { λ r. ⌜ r ≡ length (rulesTo atoms (now (nodes .entry)) count) ⌝ }
 {
-    let table = SHAPES;
-    let index = KINDS;
+    let table = table::shapes();
+    let index = table::kinds();
     let mut next = atoms;
     let mut rules = 0;
     let mut k = 0;
@@ -392,25 +175,11 @@ fn count_facts(roots: &[u8], count: usize, terms: &[u16; 1024]) -> usize
     let mut i = 0;
     while i < count {
         let root = wire::u16_at(roots, i * 2);
-        let made = fact_of(wide_term(terms[root]));
-        facts += stays(made.kept);
+        let made = table::fact_of(wide_term(terms[root]));
+        facts += table::stays(made.kept);
         i += 1;
     }
     facts
-}
-
-// Writes what stays of a rule over the start of `out`, and gives how many bytes that is.
-fn put_rule(out: &mut [u8], made: Made) -> usize
-    requires { ⌜ (made .heads < 256) × (made .positives < 256) × (made .negatives < 256) × (length (madeBytes made) ≤ length (now out)) ⌝ }
-    ensures { λ r. ⌜ r ≡ length (madeBytes made) ⌝ }
-    ensures { λ _. ⌜ now (out .exit) ≡ over (madeBytes made) (now (out .entry)) ⌝ }
-{
-    if !made.kept {
-        return 0;
-    }
-    let slots = made.slots;
-    let bytes = program::rule_bytes(made.heads, made.positives, made.negatives, slots);
-    wire::put(out, &bytes)
 }
 
 // Writes the rules of a node of a kind over the start of `out`, and gives how many bytes they are.
@@ -430,8 +199,8 @@ fn write_node(
     let mut at = 0;
     let mut j = 0;
     while j < count {
-        let made = make(&table[first + j], terms);
-        at += put_rule(&mut out[at..], made);
+        let made = table::make(&table[first + j], terms);
+        at += table::put_rule(&mut out[at..], made);
         j += 1;
     }
     at
@@ -450,8 +219,8 @@ fn write_nodes(
     ensures { λ r. ⌜ r ≡ length (rulesBytes (rulesTo atoms (now (nodes .entry)) count)) ⌝ }
     ensures { λ _. ⌜ now (out .exit) ≡ over (rulesBytes (rulesTo atoms (now (nodes .entry)) count)) (now (out .entry)) ⌝ }
 {
-    let table = SHAPES;
-    let index = KINDS;
+    let table = table::shapes();
+    let index = table::kinds();
     let mut next = atoms;
     let mut at = 0;
     let mut k = 0;
@@ -476,8 +245,8 @@ fn write_facts(out: &mut [u8], roots: &[u8], count: usize, terms: &[u16; 1024]) 
     let mut done = 0;
     while done < count {
         let root = wire::u16_at(roots, done * 2);
-        let fact = fact_of(wide_term(terms[root]));
-        at += put_rule(&mut out[at..], fact);
+        let fact = table::fact_of(wide_term(terms[root]));
+        at += table::put_rule(&mut out[at..], fact);
         done += 1;
     }
     at
@@ -564,7 +333,7 @@ fn write_labels(out: &mut [u8], nodes: &[u8], count: usize, values: &[u8; 1024])
     ensures { λ r. ⌜ r ≡ length (labelsTo (now (values .entry)) (now (nodes .entry)) count) ⌝ }
     ensures { λ _. ⌜ now (out .exit) ≡ over (labelsTo (now (values .entry)) (now (nodes .entry)) count) (now (out .entry)) ⌝ }
 {
-    let index = KINDS;
+    let index = table::kinds();
     let mut at = 0;
     let mut k = 0;
     while k < count {

@@ -9,7 +9,7 @@ use Rattle.theory.specs.Rows.{theoryRows}
 use Rattle.theory.specs.Image.{bookOf}
 use Rattle.logic.specs.Value.{number}
 use Rattle.logic.specs.Formula.{readingOf}
-use Rattle.translation.specs.Extension.{extend}
+use Rattle.flat.specs.Extension.{extend}
 use mathlib.Core.List.{map}
 use Rattle.translation.specs.Outcome.{extendRows, extended}
 use lib.ListN.{length}

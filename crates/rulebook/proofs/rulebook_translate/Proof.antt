@@ -8,7 +8,7 @@ use Rattle.refusal.proofs.Table.{none-accepted}
 use Rattle.theory.specs.Rows.{theoryRows}
 use Rattle.theory.specs.Image.{bookOf}
 use Rattle.program.specs.Image.{imageOf}
-use Rattle.translation.specs.Flat.{flat}
+use Rattle.flat.specs.Flat.{flat}
 use Rattle.translation.specs.Outcome.{translateRows, translated}
 use lib.ListN.{length}
 use Rattle.theory.proofs.Rows.{numbered-theoryRows}

@@ -6,10 +6,10 @@ use lib.ListN.{length, getD, length-append}
 use denote.Ref.{now}
 use borrow.Author.Needs.{needs}
 use Rattle.theory.specs.Image.{rootIn}
-use Rattle.translation.specs.Flat.{fact, simplify}
-use Rattle.translation.specs.OneRule.{decode, madeCount}
+use Rattle.flat.specs.Flat.{fact, simplify}
+use Rattle.table.specs.OneRule.{decode, madeCount}
+use Rattle.table.proofs.OneRule.{madeCount-madeOf}
 use Rattle.translation.specs.Turns.{factsTo, scratchTerm}
-use Rattle.translation.proofs.OneRule.{madeCount-madeOf}
 use Rattle.translation.proofs.Turns.{factsTo-none, factsTo-more}
 use Rattle.translation.proofs.count_facts.Statement.{statement}
 use Rattle.translation.proofs.count_facts.Tie as tie

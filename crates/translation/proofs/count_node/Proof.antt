@@ -5,7 +5,7 @@ use Prim.Native.Nat.{ℕ}
 use lib.ListN.{getD}
 use denote.Ref.{now}
 use borrow.Author.Needs.{needs}
-use Rattle.translation.proofs.Names.{kindRules-names}
+use Rattle.translation.proofs.Turns.{kindRules-names}
 use Rattle.translation.proofs.count_node.Statement.{statement}
 use Rattle.translation.proofs.count_node.Tie as tie
 

@@ -6,12 +6,12 @@ use native.Mathlib.Omega.{arith}
 use lib.ListN.{length, getD, length-append}
 use denote.Ref.{now}
 use borrow.Author.Needs.{needs}
-use Rattle.translation.specs.Flat.{mapRule, simplify}
-use Rattle.translation.specs.Shapes.{rowCount, shapeRule, kindShape}
-use Rattle.translation.specs.OneRule.{filled, madeCount}
+use Rattle.flat.specs.Flat.{mapRule, simplify}
+use Rattle.table.specs.Shapes.{rowCount, shapeRule, kindShape}
+use Rattle.table.specs.OneRule.{filled, madeCount}
+use Rattle.table.proofs.Rows.{row-within, row-read, row-good}
+use Rattle.table.proofs.OneRule.{madeCount-madeOf}
 use Rattle.translation.specs.Turns.{rowsTo}
-use Rattle.translation.proofs.Shapes.{row-within, row-read, row-good}
-use Rattle.translation.proofs.OneRule.{madeCount-madeOf}
 use Rattle.translation.proofs.Turns.{rowsTo-none, rowsTo-more, rowsTo-all}
 use Rattle.translation.proofs.count_rows.Statement.{statement}
 use Rattle.translation.proofs.count_rows.Tie as tie

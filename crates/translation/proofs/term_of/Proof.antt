@@ -4,8 +4,8 @@ use Prim.Native.Nat.{ℕ, zero, suc}
 use native.Mathlib.Omega.{arith}
 use Rattle.theory.specs.Image.{kindOf}
 use Rattle.theory.proofs.Images.{kindOf-last}
-use Rattle.translation.specs.Flat.{name, termOf}
-use Rattle.translation.specs.OneRule.{code}
+use Rattle.flat.specs.Flat.{name, termOf}
+use Rattle.table.specs.OneRule.{code}
 use Rattle.translation.proofs.term_of.Statement.{statement}
 use Rattle.translation.proofs.term_of.Tie as tie
 

@@ -10,7 +10,7 @@ use Rattle.theory.specs.Image.{atomCount, bookOf}
 use Rattle.theory.proofs.Accepted.{accepted}
 use Rattle.program.specs.Image.{header, rulesBytes, imageOf}
 use Rattle.program.proofs.Lengths.{length-rulesBytes, length-header}
-use Rattle.translation.specs.Flat.{flat}
+use Rattle.flat.specs.Flat.{flat}
 use Rattle.translation.specs.Outcome.{sizeOf, ruleTotal}
 use Rattle.translation.proofs.Writing.{written-past, over-last}
 use borrow.Author.Needs.{needs}

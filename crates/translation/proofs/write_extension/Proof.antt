@@ -1,5 +1,5 @@
 -- `write_extension` writes the reading and then the labels into the rest, which together are the extension's bytes. Assumes nothing.
-use mathlib.Core.Path.{_≡_, refl, ap}
+use mathlib.Core.Path.{_≡_, ap}
 use mathlib.Core.List.{map}
 use Prim.Native.Nat.{_+_, _≤_}
 use native.Mathlib.Omega.{arith}
@@ -12,7 +12,7 @@ use Rattle.theory.specs.Image.{nodeCount, nodeSection}
 use Rattle.theory.specs.NodeValues.{valuesTo}
 use Rattle.theory.proofs.Accepted.{accepted}
 use Rattle.translation.specs.Turns.{labelsTo}
-use Rattle.translation.proofs.NodeTerms.{node-known, operands-small}
+use Rattle.translation.proofs.NodeTerms.{kind-known, operands-small}
 use Rattle.translation.proofs.Sections.{nodes-accepted}
 use Rattle.translation.proofs.Labels.{reading-long, scratch-values, extension-bytes, length-extension}
 use Rattle.translation.proofs.Writable.{size-bounds}
@@ -85,7 +85,7 @@ write-labels-requires c κs =
     let nodes = nodes-accepted t (start .pre .0) in
     let put = c .before .before .before .before .before .before in
     rw (c .before .nodes .ensures .0, part-from)
-    ((nodes .few, nodes .long, λ k h. (node-known _ _ _ nodes k h _ refl .0, operands-small _ _ _ nodes k h .1)), turn-room (wrote put) (fit put))
+    ((nodes .few, nodes .long, λ k h. (kind-known _ _ _ nodes k h, operands-small _ _ _ nodes k h .1)), turn-room (wrote put) (fit put))
 
 same-length : tie.Need-same-length
 same-length c = search needs

@@ -8,10 +8,10 @@ use borrow.Author.Needs.{needs}
 use Rattle.wire.proofs.Laws.{Written, written-none, turn-room, turn}
 use Rattle.theory.specs.Image.{rootIn}
 use Rattle.program.specs.Image.{rulesBytes}
-use Rattle.translation.specs.Flat.{fact, simplify}
-use Rattle.translation.specs.OneRule.{decode, madeBytes}
+use Rattle.flat.specs.Flat.{fact, simplify}
+use Rattle.table.specs.OneRule.{decode, madeBytes}
+use Rattle.table.proofs.OneRule.{madeOf-few, madeBytes-madeOf}
 use Rattle.translation.specs.Turns.{factsTo, scratchTerm}
-use Rattle.translation.proofs.OneRule.{madeOf-few, madeBytes-madeOf}
 use Rattle.translation.proofs.Turns.{factsTo-none, factsTo-more}
 use Rattle.translation.proofs.Writing.{bytes-more, bytes-fit}
 use Rattle.translation.proofs.write_facts.Statement.{statement}

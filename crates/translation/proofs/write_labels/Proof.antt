@@ -9,9 +9,9 @@ use lib.Seq.{length-take-le}
 use Rattle.wire.specs.Wire.{over}
 use Rattle.wire.proofs.Laws.{Written, written-none, turn-room, turn}
 use Rattle.theory.specs.Image.{nodeIn}
-use Rattle.translation.specs.Shapes.{labelsOf}
+use Rattle.table.specs.Shapes.{labelsOf}
+use Rattle.table.proofs.Rows.{labels-few}
 use Rattle.translation.specs.Turns.{labelBytes, labelsTo}
-use Rattle.translation.proofs.Shapes.{labels-few}
 use Rattle.translation.proofs.Turns.{labelsTo-none, labelsTo-more, grown}
 use Rattle.translation.proofs.write_labels.Statement.{statement}
 use Rattle.translation.proofs.write_labels.Tie as tie
@@ -21,6 +21,9 @@ Inv-loop out₀ nodes count values index at₀ k₀ out at k = Written (labelsTo
 
 abbrev μ-loop : tie.MeasureT-loop
 μ-loop out₀ nodes count values index at₀ k₀ out at k = count - k
+
+kinds-requires : tie.Need-kinds-requires Inv-loop μ-loop
+kinds-requires c κs = search needs
 
 loop-holds : tie.Need-loop-holds Inv-loop μ-loop
 loop-holds c = (rw labelsTo-none (written-none _), search needs)
@@ -32,20 +35,20 @@ right-at-requires : tie.Need-right-at-requires Inv-loop μ-loop
 right-at-requires c κs = search needs
 
 -- the node's labels fit behind those written
-fits : (c : tie.In-loop Inv-loop μ-loop) → let start = c .before .before .before .before in let v = now (start .args .values) in let s = now (start .args .nodes) in let k = c .before .loop .k in
+fits : (c : tie.In-loop Inv-loop μ-loop) → let start = c .before .before .before .before .before in let v = now (start .args .values) in let s = now (start .args .nodes) in let k = c .before .loop .k in
     length (labelsTo v s k) + length (labelBytes v s k) ≤ length (now (start .args .out))
 fits c =
-    let start = c .before .before .before .before in
+    let start = c .before .before .before .before .before in
     let v = now (start .args .values) in
     let s = now (start .args .nodes) in
     omega (arith, grown (labelsTo v s) (labelBytes v s) (labelsTo-more v s) (c .before .loop .k) (start .args .count) (search needs))
 
 -- its kind has a row, and its right side a value
-known : (c : tie.In-loop Inv-loop μ-loop) → let start = c .before .before .before .before in let s = now (start .args .nodes) in let k = c .before .loop .k in
+known : (c : tie.In-loop Inv-loop μ-loop) → let start = c .before .before .before .before .before in let s = now (start .args .nodes) in let k = c .before .loop .k in
     (getD s (k * 6) 0 < 7) × (nodeIn s k .right < 1024)
-known c = c .before .before .before .before .pre .0 .2 (c .before .loop .k) (search needs)
+known c = c .before .before .before .before .before .pre .0 .2 (c .before .loop .k) (search needs)
 
-labels-long : (c : tie.In-loop Inv-loop μ-loop) → let start = c .before .before .before .before in let s = now (start .args .nodes) in let k = c .before .loop .k in
+labels-long : (c : tie.In-loop Inv-loop μ-loop) → let start = c .before .before .before .before .before in let s = now (start .args .nodes) in let k = c .before .loop .k in
     length (labelBytes (now (start .args .values)) s k) ≡ labelsOf (getD s (k * 6) 0)
 labels-long c = length-take-le _ _ (labels-few _ (known c .0))
 
@@ -68,7 +71,7 @@ index-2-put-labels : tie.Need-index-2-put-labels Inv-loop μ-loop
 index-2-put-labels c = search needs
 
 element-copy-out-put-labels : tie.Need-element-copy-out-put-labels Inv-loop μ-loop
-element-copy-out-put-labels c = omega (arith, c .before .before .before .before .before .before .before .before .pre .0)
+element-copy-out-put-labels c = omega (arith, c .before .before .before .before .before .before .before .before .before .pre .0)
 
 element-copy-out-put-labels-2 : tie.Need-element-copy-out-put-labels-2 Inv-loop μ-loop
 element-copy-out-put-labels-2 c = rw (c .before .before .before .right-at .ensures) (known (c .before .before .before .before .before) .1)
@@ -77,21 +80,22 @@ put-labels-requires : tie.Need-put-labels-requires Inv-loop μ-loop
 put-labels-requires c κs =
     let turn = c .before .before .before .before .before .before in
     let room = turn-room (turn .before .loop .inv .0) (rw (labels-long turn) at (fits turn)) in
-    rw (c .before .before .before .before .before .kind-at .ensures) (labels-few _ (known turn .0), room)
+    rw (turn .before .before .kinds .ensures, c .before .before .before .before .before .kind-at .ensures) (labels-few _ (known turn .0), room)
 
 -- what was written are the node's labels
-wrote : (c : tie.After-slice-known2 Inv-loop μ-loop) → let loop = c .before .before .before .before .before .before .before .before .before .before in let start = loop .before .before .before in let v = now (start .args .values) in let s = now (start .args .nodes) in
+wrote : (c : tie.After-slice-known2 Inv-loop μ-loop) → let loop = c .before .before .before .before .before .before .before .before .before .before in let start = loop .before .before .before .before in let v = now (start .args .values) in let s = now (start .args .nodes) in
     (c .before .before .put-labels .result ≡ length (labelBytes v s (loop .loop .k)))
     × (c .before .before .put-labels .last .0 ≡ over (labelBytes v s (loop .loop .k)) (take (length (loop .loop .out) - loop .loop .at) (drop (loop .loop .at) (loop .loop .out))))
 wrote c =
-    let put = rw (c .before .before .before .before .before .before .before .before .kind-at .ensures, c .before .before .before .before .before .before .before .right-at .ensures) at (c .before .before .put-labels .ensures) in
+    let kinds = c .before .before .before .before .before .before .before .before .before .before .before in
+    let put = rw (kinds .kinds .ensures, c .before .before .before .before .before .before .before .before .kind-at .ensures, c .before .before .before .before .before .before .before .right-at .ensures) at (c .before .before .put-labels .ensures) in
     (put .0 ∙ sym (labels-long (c .before .before .before .before .before .before .before .before .before)), put .1)
 
 add-at : tie.Need-add-at Inv-loop μ-loop
-add-at c = omega (arith, fits (c .before .before .before .before .before .before .before .before .before), c .before .before .before .before .before .before .before .before .before .before .loop .inv .0, wrote c .0, c .before .before .before .before .before .before .before .before .before .before .before .before .before .good)
+add-at c = omega (arith, fits (c .before .before .before .before .before .before .before .before .before), c .before .before .before .before .before .before .before .before .before .before .loop .inv .0, wrote c .0, c .before .before .before .before .before .before .before .before .before .before .before .before .before .before .good)
 
 add-k : tie.Need-add-k Inv-loop μ-loop
-add-k c = omega (arith, c .before .before .before .before .before .before .before .before .before .before .before .before .before .pre .0)
+add-k c = omega (arith, c .before .before .before .before .before .before .before .before .before .before .before .before .before .before .pre .0)
 
 loop-less : tie.Need-loop-less Inv-loop μ-loop
 loop-less c = search needs
@@ -99,7 +103,7 @@ loop-less c = search needs
 loop-again : tie.Need-loop-again Inv-loop μ-loop
 loop-again c =
     let loop = c .before .before .before .before .before .before .before .before .before .before in
-    let start = loop .before .before .before in
+    let start = loop .before .before .before .before in
     let v = now (start .args .values) in
     let s = now (start .args .nodes) in
     (rw (labelsTo-more v s) (turn (loop .loop .inv .0) (labelBytes v s (loop .loop .k)) (fits (c .before .before .before .before .before .before .before .before .before)) (wrote c .0) (wrote c .1)), search needs)
@@ -109,7 +113,7 @@ same-length c = search needs
 
 returns : tie.Need-returns Inv-loop μ-loop
 returns c =
-    let e : c .before .loop .k ≡ c .before .before .before .before .args .count = omega arith in
+    let e : c .before .loop .k ≡ c .before .before .before .before .before .args .count = omega arith in
     let w = c .before .loop .inv .0 in
     (rw e at (w .end), rw e at (w .bytes))
 
@@ -119,6 +123,7 @@ write-labels-spec =
     (tie.spec
     Inv-loop
     μ-loop
+    kinds-requires
     loop-holds
     kind-at-requires
     right-at-requires

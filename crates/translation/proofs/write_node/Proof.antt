@@ -8,12 +8,12 @@ use denote.Ref.{now}
 use borrow.Author.Needs.{needs}
 use Rattle.wire.proofs.Laws.{Written, written-none, turn-room, turn}
 use Rattle.program.specs.Image.{rulesBytes}
-use Rattle.translation.specs.Flat.{mapRule, simplify}
-use Rattle.translation.specs.Shapes.{rowCount, shapeRule, kindShape}
-use Rattle.translation.specs.OneRule.{filled, madeOf, madeBytes}
+use Rattle.flat.specs.Flat.{mapRule, simplify}
+use Rattle.table.specs.Shapes.{rowCount, shapeRule, kindShape}
+use Rattle.table.specs.OneRule.{filled, madeOf, madeBytes}
+use Rattle.table.proofs.Rows.{row-within, row-read, row-good}
+use Rattle.table.proofs.OneRule.{ruleIn, madeOf-few, length-ruleIn, madeBytes-madeOf}
 use Rattle.translation.specs.Turns.{rowsTo}
-use Rattle.translation.proofs.Shapes.{row-within, row-read, row-good}
-use Rattle.translation.proofs.OneRule.{ruleIn, madeOf-few, length-ruleIn, madeBytes-madeOf}
 use Rattle.translation.proofs.Turns.{rowsTo-none, rowsTo-more, rowsTo-all}
 use Rattle.translation.proofs.Writing.{bytes-more, bytes-fit}
 use Rattle.translation.proofs.write_node.Statement.{statement}

@@ -1,0 +1,4 @@
+pub mod Table
+pub mod Flat
+pub mod Extension
+pub mod OneToOne

@@ -1,0 +1,122 @@
+-- Where no slot holds a constant every row's rule stays with all its literals: by induction on the slots and on the rows. Assumes nothing.
+use mathlib.Core.Path.{_≡_, refl, ap, _∙_}
+use mathlib.Core.Bool.{Bool, true, false, _&&_, cond}
+use mathlib.Core.List.{List, [], _∷_, _++_, map, append-assoc, append-nil}
+use Prim.Native.Nat.{ℕ, zero, suc, _+_, _≤_, _<_}
+use native.Mathlib.Nat.{add-zero, add-suc}
+use native.Mathlib.Omega.{arith}
+use lib.Dec.{ltb}
+use lib.ListN.{getD, List·getD-eq-default}
+use borrow.Author.Tests.{ltb-true, ltb-false, ne-eqb}
+use Rattle.refusal.proofs.Table.{cases}
+use Rattle.logic.proofs.Bools.{&&-split}
+use Rattle.wire.specs.Sequence.{upTo}
+use Rattle.wire.proofs.Sequence.{length-upTo, getD-upTo, upTo-equal, map-upTo}
+use Rattle.program.specs.Rule.{RuleOf}
+use Rattle.flat.specs.Table.{Slot, x, y, L, M}
+use Rattle.flat.specs.Flat.{name, has, names, mapRule, removes}
+use Rattle.table.specs.Shapes.{slotOf, slotNumber, slotsFrom, shapeRule}
+use Rattle.table.specs.OneRule.{decode, filled, allNames, nameIn, madeOf}
+use Rattle.table.proofs.OneRule.{slotNumber-slotOf}
+
+-- A number below the constants' is a name's.
+decode-name : (n : ℕ) → n < 65534 → decode n ≡ name n
+decode-name n h = rw (ne-eqb n 65534 (λ e. omega arith), ne-eqb n 65535 (λ e. omega arith))
+
+-- The number of what stands in a slot.
+abbrev numberIn : List ℕ → Slot → ℕ
+numberIn terms s = getD terms (slotNumber s) 0
+
+-- ---- the first items of a sequence
+
+-- Those of two stretches.
+upTo-append : {S : Type 0} (f : ℕ → S) (m n : ℕ) → upTo f (m + n) ≡ upTo f m ++ upTo (λ j. f (m + j)) n
+unfolding upTo
+upTo-append f m zero = rw (add-zero, append-nil)
+upTo-append f m (suc n) = rw (add-suc, upTo-append f m n, append-assoc)
+
+-- The item at k, and 0 behind the last.
+getD-first : (f : ℕ → ℕ) (n k : ℕ) → getD (upTo f n) k 0 ≡ cond (ltb k n) (f k) 0
+getD-first f n k = cases (ltb k n)
+    (λ t. rw t (getD-upTo f n k 0 (ltb-true k n t)))
+    (λ u. rw u (List·getD-eq-default (upTo f n) 0 (rw length-upTo (ltb-false k n u))))
+
+-- ---- names in the slots
+
+module _ (terms : List ℕ) (all : allNames terms ≡ true) where
+  -- Each term is below the constants' numbers, so each slot holds a name.
+  abbrev low : ℕ → Bool
+  low n = ltb (getD terms n 0) 65534
+
+  behind-x : (low 1 && (low 2 && low 3)) ≡ true
+  behind-x = &&-split (low 0) _ all .1
+
+  behind-y : (low 2 && low 3) ≡ true
+  behind-y = &&-split (low 1) _ behind-x .1
+
+  filled-name : (s : Slot) → filled terms s ≡ name (numberIn terms s)
+  filled-name x = decode-name _ (ltb-true _ _ (&&-split (low 0) _ all .0))
+  filled-name y = decode-name _ (ltb-true _ _ (&&-split (low 1) _ behind-x .0))
+  filled-name L = decode-name _ (ltb-true _ _ (&&-split (low 2) _ behind-y .0))
+  filled-name M = decode-name _ (ltb-true _ _ (&&-split (low 2) _ behind-y .1))
+
+  -- No constant is among them, so no row is removed.
+  has-filled : (c : Bool) (l : List Slot) → has c (map (filled terms) l) ≡ false
+  has-filled c [] = refl
+  has-filled c (s ∷ l) = rw (filled-name s) (has-filled c l)
+
+  pub removes-filled : (r : RuleOf Slot) → removes (mapRule (filled terms) r) ≡ false
+  removes-filled r = rw (has-filled true (r .heads), has-filled false (r .positives), has-filled true (r .negatives))
+
+  -- The names are the numbers that stand in the slots.
+  names-filled : (l : List Slot) → names (map (filled terms) l) ≡ map (numberIn terms) l
+  names-filled [] = refl
+  names-filled (s ∷ l) = rw (filled-name s) (ap (λ ns. numberIn terms s ∷ ns) (names-filled l))
+
+  module _ (s : List ℕ) (named : (j : ℕ) → j < 6 → getD s j 0 < 4) (few : getD s 0 0 + getD s 1 0 + getD s 2 0 ≤ 3) where
+    -- How many heads, positives and negatives a shape has.
+    abbrev H : ℕ
+    H = getD s 0 0
+
+    abbrev P : ℕ
+    P = getD s 1 0
+
+    abbrev N : ℕ
+    N = getD s 2 0
+
+    -- The number in slot j,
+    abbrev number : ℕ → ℕ
+    number j = getD terms (getD s (3 + j) 0) 0
+
+    -- and those in one part of the slots.
+    part : (start count : ℕ) (slot : ℕ → ℕ) → ((j : ℕ) → start + j ≡ 3 + slot j) → start + count ≤ 6
+        → names (map (filled terms) (slotsFrom s start count)) ≡ upTo (λ j. number (slot j)) count
+    part start count slot e h =
+        names-filled (slotsFrom s start count)
+        ∙ map-upTo (numberIn terms) (λ j. slotOf (getD s (start + j) 0)) count
+        ∙ upTo-equal _ _ count (λ j l. ap (λ n. getD terms n 0) (slotNumber-slotOf (getD s (start + j) 0) (named (start + j) (omega arith)) ∙ ap (λ i. getD s i 0) (e j)))
+
+    -- The heads, then the positives, then the negatives are the numbers in all slots that are used.
+    literals-names : upTo number H ++ (upTo (λ j. number (H + j)) P ++ upTo (λ j. number (H + P + j)) N) ≡ upTo number (H + P + N)
+    literals-names = rw (upTo-append number (H + P) N, upTo-append number H P, append-assoc)
+
+    -- The rule that is made has all literals of the shape.
+    pub made-names : let at : ℕ → ℕ = nameIn s terms (H + P + N) in
+        record { kept = true; heads = H; positives = P; negatives = N; slots = at 0 ∷ at 1 ∷ at 2 ∷ [] } ≡ madeOf (mapRule (filled terms) (shapeRule s))
+    unfolding madeOf
+    made-names =
+        rw (
+          removes-filled (shapeRule s),
+          part 3 H (λ j. j) (λ j. refl) (omega arith),
+          part (3 + H) P (λ j. H + j) (λ j. omega arith) (omega arith),
+          part (3 + H + P) N (λ j. H + P + j) (λ j. omega arith) (omega arith),
+        )
+        (rw (
+          length-upTo number H,
+          length-upTo (λ j. number (H + j)) P,
+          length-upTo (λ j. number (H + P + j)) N,
+          literals-names,
+          getD-first number (H + P + N) 0,
+          getD-first number (H + P + N) 1,
+          getD-first number (H + P + N) 2,
+        ))

@@ -1,0 +1,69 @@
+-- One rule as the code makes it: terms as numbers, and literals added one by one.
+use mathlib.Core.Bool.{Bool, true, false, not, _&&_, cond}
+use mathlib.Core.List.{List, [], _∷_}
+use Prim.Native.Nat.{ℕ, zero, suc, _+_}
+use lib.Dec.{eqb, ltb}
+use lib.ListN.{getD, length, set}
+use Rattle.program.specs.Rule.{RuleOf}
+use Rattle.program.specs.Image.{literals, tenBytes}
+use Rattle.flat.specs.Table.{Slot}
+use Rattle.flat.specs.Flat.{Term, constant, name, removes, reduce}
+use Rattle.table.specs.declared.Literals.{Literals}
+use Rattle.table.specs.declared.Made.{Made}
+use Rattle.table.specs.Shapes.{slotNumber}
+
+-- The number of a term: a name's own, and two numbers above for the constants.
+abbrev pub code : Term → ℕ
+code (constant false) = 65534
+code (constant true) = 65535
+code (name a) = a
+
+-- The term of a number.
+abbrev pub decode : ℕ → Term
+decode n = cond (eqb n 65534) (constant false) (cond (eqb n 65535) (constant true) (name n))
+
+-- What stands in the slots where x, y, L and M have these numbers.
+abbrev pub filled : List ℕ → Slot → Term
+filled terms s = decode (getD terms (slotNumber s) 0)
+
+-- Are the terms of x, y, L and M all names?
+abbrev pub allNames : List ℕ → Bool
+allNames terms = ltb (getD terms 0 0) 65534 && (ltb (getD terms 1 0) 65534 && (ltb (getD terms 2 0) 65534 && ltb (getD terms 3 0) 65534))
+
+-- What stands in slot j of a rule of a shape that uses so many slots, where every term is a name: 0 where it is unused.
+abbrev pub nameIn : (s terms : List ℕ) → (used j : ℕ) → ℕ
+nameIn s terms used j = cond (ltb j used) (getD terms (getD s (3 + j) 0) 0) 0
+
+-- One literal more, where the constant `removing` removes the rule: any other constant is dropped, and a name takes the next slot.
+abbrev pub added : Literals → (removing term : ℕ) → Literals
+added l removing term =
+    cond (eqb term removing) (record { kept = false; used = l .used; slots = l .slots })
+    (cond (eqb term 65534) l
+    (cond (eqb term 65535) l (record { kept = l .kept; used = l .used + 1; slots = set (l .slots) (l .used) term })))
+
+-- The terms f 0, f 1, .. and so on added: n literals more.
+unfoldable pub addedTo : Literals → (removing : ℕ) → (ℕ → ℕ) → (n : ℕ) → Literals
+addedTo l removing f zero = l
+addedTo l removing f (suc n) = added (addedTo l removing f n) removing (f n)
+
+-- The first three of a list, 0 where it ends.
+abbrev pub firstThree : List ℕ → List ℕ
+firstThree l = getD l 0 0 ∷ getD l 1 0 ∷ getD l 2 0 ∷ []
+
+-- A rule with its constants gone: whether it stays, its counts and its slots.
+unfoldable pub madeOf : RuleOf Term → Made
+madeOf r = record {
+  kept = not (removes r);
+  heads = length (reduce r .heads);
+  positives = length (reduce r .positives);
+  negatives = length (reduce r .negatives);
+  slots = firstThree (literals (reduce r));
+}
+
+-- How many rules stay of one: it, or none.
+abbrev pub madeCount : Made → ℕ
+madeCount m = cond (m .kept) 1 0
+
+-- The bytes that stay of it.
+abbrev pub madeBytes : Made → List ℕ
+madeBytes m = cond (m .kept) (tenBytes (m .heads) (m .positives) (m .negatives) (m .slots)) []

@@ -1,0 +1,247 @@
+//! The rule table as the code has it, and one rule of it: its slots filled, its constants gone, its bytes written.
+ghost use mathlib.Core.Path.{_≡_};
+ghost use mathlib.Core.Bool.{true, cond};
+ghost use Prim.Native.Nat.{ℕ, _+_, _≤_, _<_};
+ghost use lib.ListN.{length, getD};
+ghost use Rattle.wire.specs.Wire.{over};
+ghost use Rattle.flat.specs.Flat.{fact, mapRule};
+ghost use Rattle.table.specs.Shapes.{shapes, kinds, shapeRule};
+ghost use Rattle.table.specs.OneRule.{decode, filled, allNames, nameIn, added, addedTo, madeOf, madeBytes};
+
+// What may stand in a slot: the terms x of left and y of right, the node's label L, and M, the label for the negation of right.
+const X: usize = 0;
+
+const Y: usize = 1;
+
+const L: usize = 2;
+
+const M: usize = 3;
+
+// A row for each rule: heads, positives, negatives, and which term in which slot; an unused slot holds 0.
+const SHAPES: [[usize; 6]; 14] = [
+    [1, 0, 1, L, X, 0],
+    [0, 2, 0, L, X, 0],
+    [1, 1, 0, X, L, 0],
+    [1, 1, 0, Y, L, 0],
+    [1, 2, 0, L, X, Y],
+    [1, 1, 0, L, X, 0],
+    [1, 1, 0, L, Y, 0],
+    [2, 1, 0, X, Y, L],
+    [1, 2, 0, Y, L, X],
+    [1, 0, 1, L, X, 0],
+    [1, 1, 0, L, Y, 0],
+    [3, 0, 0, X, M, L],
+    [1, 0, 1, M, Y, 0],
+    [0, 2, 0, M, Y, 0],
+];
+
+// Of each kind its first row, its number of rows and its number of labels.
+const KINDS: [[usize; 3]; 7] = [
+    [0, 0, 0],
+    [0, 0, 0],
+    [0, 0, 0],
+    [0, 2, 1],
+    [2, 3, 1],
+    [5, 3, 1],
+    [8, 6, 2],
+];
+
+// The table, and the index of the kinds: those of the definitions.
+pub fn shapes() -> [[usize; 6]; 14]
+    ensures { λ r. ⌜ r ≡ shapes ⌝ }
+{
+    SHAPES
+}
+
+pub fn kinds() -> [[usize; 3]; 7]
+    ensures { λ r. ⌜ r ≡ kinds ⌝ }
+{
+    KINDS
+}
+
+// The terms that are constants; every other term is an atom's number or a label's.
+pub const FALSE: usize = 65534;
+
+pub const TRUE: usize = 65535;
+
+// The literals of a rule that is being made: whether the rule stays, how many slots are used, and the slots.
+pub struct Literals {
+    pub kept: bool,
+    pub used: usize,
+    pub slots: [usize; 3],
+}
+
+// A rule with its constants gone: whether it stays, its counts and its slots.
+pub struct Made {
+    pub kept: bool,
+    pub heads: usize,
+    pub positives: usize,
+    pub negatives: usize,
+    pub slots: [usize; 3],
+}
+
+// One literal more.
+fn add(literals: Literals, removing: usize, term: usize) -> Literals
+    requires { ⌜ literals .used < 3 ⌝ }
+    ensures { λ r. ⌜ r ≡ added literals removing term ⌝ }
+{
+    let used = literals.used;
+    let mut slots = literals.slots;
+    if term == removing {
+        return Literals {
+            kept: false,
+            used,
+            slots,
+        };
+    }
+    if term == FALSE {
+        return literals;
+    }
+    if term == TRUE {
+        return literals;
+    }
+    slots[used] = term;
+    Literals {
+        kept: literals.kept,
+        used: used + 1,
+        slots,
+    }
+}
+
+// The terms of `count` slots of a shape more, from the slot at `start` on.
+fn add_slots(
+    literals: Literals,
+    removing: usize,
+    shape: &[usize; 6],
+    terms: &[usize; 4],
+    start: usize,
+    count: usize,
+) -> Literals
+    requires { ⌜ (literals .used + count ≤ 3) × (start + count ≤ 6) × ((j : ℕ) → j < 6 → getD (now shape) j 0 < 4) ⌝ }
+    ensures { λ r. ⌜ r ≡ addedTo literals removing (λ j. getD (now (terms .entry)) (getD (now (shape .entry)) (start + j) 0) 0) count ⌝ }
+{
+    let mut all = literals;
+    let mut j = 0;
+    while j < count {
+        let slot = shape[start + j];
+        all = add(all, removing, terms[slot]);
+        j += 1;
+    }
+    all
+}
+
+// Are the terms of x, y, L and M all names?
+pub fn all_names(terms: &[usize; 4]) -> bool
+    ensures { λ r. ⌜ r ≡ allNames (now (terms .entry)) ⌝ }
+{
+    terms[0] < FALSE && (terms[1] < FALSE && (terms[2] < FALSE && terms[3] < FALSE))
+}
+
+// What stands in slot j of a rule of a shape that uses so many slots, where every term is a name.
+fn name_in(shape: &[usize; 6], terms: &[usize; 4], used: usize, j: usize) -> usize
+    requires { ⌜ (j < 3) × ((i : ℕ) → i < 6 → getD (now shape) i 0 < 4) ⌝ }
+    ensures { λ r. ⌜ r ≡ nameIn (now (shape .entry)) (now (terms .entry)) used j ⌝ }
+{
+    if j < used { terms[shape[3 + j]] } else { 0 }
+}
+
+// The rule of a shape, where the terms of x, y, L and M are all names: it stays with all its literals.
+fn make_of_names(shape: &[usize; 6], terms: &[usize; 4]) -> Made
+    requires { ⌜ (getD (now shape) 0 0 + getD (now shape) 1 0 + getD (now shape) 2 0 ≤ 3) × ((j : ℕ) → j < 6 → getD (now shape) j 0 < 4) ⌝ }
+    requires { ⌜ allNames (now terms) ≡ true ⌝ }
+    ensures { λ r. ⌜ r ≡ madeOf (mapRule (filled (now (terms .entry))) (shapeRule (now (shape .entry)))) ⌝ }
+{
+    let heads = shape[0];
+    let positives = shape[1];
+    let negatives = shape[2];
+    let used = heads + positives + negatives;
+    let slots = [
+        name_in(shape, terms, used, 0),
+        name_in(shape, terms, used, 1),
+        name_in(shape, terms, used, 2),
+    ];
+    Made {
+        kept: true,
+        heads,
+        positives,
+        negatives,
+        slots,
+    }
+}
+
+// The rule of a shape, where x, y, L and M have these terms, by the straight way where no constant is among them.
+pub fn make(shape: &[usize; 6], terms: &[usize; 4]) -> Made
+    requires { ⌜ (getD (now shape) 0 0 + getD (now shape) 1 0 + getD (now shape) 2 0 ≤ 3) × ((j : ℕ) → j < 6 → getD (now shape) j 0 < 4) ⌝ }
+    ensures { λ r. ⌜ r ≡ madeOf (mapRule (filled (now (terms .entry))) (shapeRule (now (shape .entry)))) ⌝ }
+{
+    if all_names(terms) {
+        return make_of_names(shape, terms);
+    }
+    make_of_terms(shape, terms)
+}
+
+// The rule of a shape, its literals added one by one, whatever the terms.
+fn make_of_terms(shape: &[usize; 6], terms: &[usize; 4]) -> Made
+    requires { ⌜ (getD (now shape) 0 0 + getD (now shape) 1 0 + getD (now shape) 2 0 ≤ 3) × ((j : ℕ) → j < 6 → getD (now shape) j 0 < 4) ⌝ }
+    ensures { λ r. ⌜ r ≡ madeOf (mapRule (filled (now (terms .entry))) (shapeRule (now (shape .entry)))) ⌝ }
+{
+    let heads = shape[0];
+    let positives = shape[1];
+    let none = Literals {
+        kept: true,
+        used: 0,
+        slots: [0, 0, 0],
+    };
+    let a = add_slots(none, TRUE, shape, terms, 3, heads);
+    let b = add_slots(a, FALSE, shape, terms, 3 + heads, positives);
+    let c = add_slots(b, TRUE, shape, terms, 3 + heads + positives, shape[2]);
+    let slots = c.slots;
+    Made {
+        kept: c.kept,
+        heads: a.used,
+        positives: b.used - a.used,
+        negatives: c.used - b.used,
+        slots,
+    }
+}
+
+// How many rules stay of one that was made.
+pub fn stays(kept: bool) -> usize
+    ensures { λ r. ⌜ (r ≡ cond kept 1 0) × (r ≤ 1) ⌝ }
+{
+    if kept { 1 } else { 0 }
+}
+
+// The fact that holds a term, if it stays.
+pub fn fact_of(term: usize) -> Made
+    ensures { λ r. ⌜ r ≡ madeOf (fact (decode term)) ⌝ }
+{
+    let none = Literals {
+        kept: true,
+        used: 0,
+        slots: [0, 0, 0],
+    };
+    let head = add(none, TRUE, term);
+    let slots = head.slots;
+    Made {
+        kept: head.kept,
+        heads: head.used,
+        positives: 0,
+        negatives: 0,
+        slots,
+    }
+}
+
+// Writes what stays of a rule over the start of `out`, and gives how many bytes that is.
+pub fn put_rule(out: &mut [u8], made: Made) -> usize
+    requires { ⌜ (made .heads < 256) × (made .positives < 256) × (made .negatives < 256) × (length (madeBytes made) ≤ length (now out)) ⌝ }
+    ensures { λ r. ⌜ r ≡ length (madeBytes made) ⌝ }
+    ensures { λ _. ⌜ now (out .exit) ≡ over (madeBytes made) (now (out .entry)) ⌝ }
+{
+    if !made.kept {
+        return 0;
+    }
+    let slots = made.slots;
+    let bytes = program::rule_bytes(made.heads, made.positives, made.negatives, slots);
+    wire::put(out, &bytes)
+}
