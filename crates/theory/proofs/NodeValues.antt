@@ -18,7 +18,7 @@ use Rattle.theory.specs.Image.{nodeCount, nodeSection, nodeIn, bookOf}
 use Rattle.theory.specs.NodeValues.{worth, valueFrom, valuesTo, nodeValues}
 use Rattle.theory.proofs.Books.{length-formulas, formulas-upTo}
 
-pub value-say : (I : Reading) (k : Kind) (a : ℕ) (f g : Formula) → value I (say k a f g) ≡ worth k (valueOf I a) (value I f) (value I g)
+value-say : (I : Reading) (k : Kind) (a : ℕ) (f g : Formula) → value I (say k a f g) ≡ worth k (valueOf I a) (value I f) (value I g)
 value-say I falseKind a f g = refl
 value-say I trueKind a f g = refl
 value-say I atomKind a f g = refl
@@ -32,7 +32,7 @@ value-formula I fs n =
     rw (List·getD-map (value I) fs (n .left) falsum, List·getD-map (value I) fs (n .right) falsum) (value-say I (n .kind) (n .left) _ _)
 
 -- One node more has one value more.
-pub values-upTo : (I : Reading) (fs : List Formula) (f : ℕ → Node) (k : ℕ) →
+values-upTo : (I : Reading) (fs : List Formula) (f : ℕ → Node) (k : ℕ) →
     let vs : List Value = map (value I) (formulas fs (upTo f k)) in
     map (value I) (formulas fs (upTo f (k + 1))) ≡ vs ++ (valueFrom I vs (f k) ∷ [])
 values-upTo I fs f k =

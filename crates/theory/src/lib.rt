@@ -138,7 +138,7 @@ fn first_bad_node(nodes: &[u8], atoms: usize, count: usize) -> usize
         }
         k += 1;
     }
-    count
+    k
 }
 
 // The index of the first root that is not below the number of nodes, and the count where each is.
@@ -153,7 +153,7 @@ fn first_bad_root(roots: &[u8], nodes: usize, count: usize) -> usize
         }
         i += 1;
     }
-    count
+    i
 }
 
 // Rows 1 to 7: the header, then the nodes, then the roots.
@@ -246,7 +246,7 @@ fn first_untrue(roots: &[u8], values: &[u8], count: usize) -> usize
         }
         i += 1;
     }
-    count
+    i
 }
 
 // Whether a reading satisfies an accepted theory: its nodes' values go to `scratch`, then each root is looked up there.

@@ -24,7 +24,7 @@ keeps-requires c κs = search needs
 returns : tie.Need-returns Inv-loop μ-loop
 returns c =
     let turn = c .before .before in
-    sym (first-here _ _ _ (turn .before .loop .inv) (ap not (sym (c .before .keeps .ensures)) ∙ c .if1 .taken))
+    first-here _ _ _ (turn .before .loop .inv) (ap not (sym (c .before .keeps .ensures)) ∙ c .if1 .taken)
 
 add-place : tie.Need-add-place Inv-loop μ-loop
 add-place c = search needs
@@ -38,7 +38,7 @@ loop-again c =
     first-on _ _ _ (turn .before .loop .inv) (turn .loop-test .taken) (ap not (sym (c .before .keeps .ensures)) ∙ c .if1 .left)
 
 returns-2 : tie.Need-returns-2 Inv-loop μ-loop
-returns-2 c = sym (first-end _ _ _ (c .before .loop .inv) (c .loop-test .left))
+returns-2 c = first-end _ _ _ (c .before .loop .inv) (c .loop-test .left)
 
 pub first-broken-spec : {M : Type 1} → statement M
 first-broken-spec =

@@ -1,17 +1,18 @@
 -- `check` gives rows 1 to 7: where the header is refused that answer stands, else row 6 decides, then row 7. Assumes nothing.
-use mathlib.Core.Path.{_≡_, sym, _∙_}
+use mathlib.Core.Path.{_≡_}
+use mathlib.Core.Bool.{true}
 use mathlib.Core.List.{List, [], _∷_}
 use Prim.Native.Nat.{ℕ, _+_, _*_}
 use native.Mathlib.Omega.{arith}
 use lib.ListN.{length-drop}
 use denote.Ref.{now}
 use borrow.Author.Needs.{needs}
-use Rattle.refusal.specs.Table.{answer}
-use Rattle.refusal.proofs.Table.{answer-refused, answer-accepted, none-accepted}
+use Rattle.refusal.specs.Table.{none}
+use Rattle.refusal.proofs.Table.{answer-refused, none-accepted, Reached, reached-past, reached-accepted}
 use Rattle.theory.specs.Image.{nodeCount, rootCount}
 use Rattle.theory.specs.Rows.{row6, row7, headerRows, theoryRows}
 use Rattle.wire.proofs.Laws.{part-from}
-use Rattle.refusal.proofs.First.{firstSuch-refused, firstSuch-past}
+use Rattle.refusal.proofs.First.{firstSuch-refused, firstSuch-next}
 use Rattle.theory.proofs.Rows.{numbered-headerRows}
 use Rattle.theory.proofs.Accepted.{Header, header-accepted}
 use Rattle.theory.proofs.check.Statement.{statement}
@@ -20,14 +21,18 @@ use Rattle.theory.proofs.check.Tie as tie
 abbrev image : tie.Else1 → List ℕ
 image c = now (c .before .before .before .before .args .theory)
 
--- behind the header, its rows are past,
-past : (c : tie.Else1) → answer (theoryRows (image c)) 1 ≡ answer (row6 (image c) ∷ row7 (image c) ∷ []) 1
+-- behind the header none of its rows applies:
+clear : (c : tie.Else1) → none (headerRows (image c)) ≡ true
+clear c = none-accepted (headerRows (image c)) 0 (numbered-headerRows (image c)) (c .before .before .header .ensures) (c .if1 .left)
+
+-- they are past,
+past : (c : tie.Else1) → Reached (theoryRows (image c)) 1 (row6 (image c) ∷ row7 (image c) ∷ [])
 unfolding theoryRows
-past c = answer-accepted (headerRows (image c)) _ 0 1 (numbered-headerRows (image c)) (c .before .before .header .ensures) (c .if1 .left)
+past c = reached-past (headerRows (image c)) _ 1 (clear c)
 
 -- and the image is as long as it says
 is-header : (c : tie.Else1) → Header (image c)
-is-header c = header-accepted (image c) (none-accepted (headerRows (image c)) 0 (numbered-headerRows (image c)) (c .before .before .header .ensures) (c .if1 .left))
+is-header c = header-accepted (image c) (clear c)
 
 -- each place found is its row's place
 nodes-are : (c : tie.After-first-bad-node) → c .before .before .before .nodes .result ≡ nodeCount (image (c .before .before .before .before))
@@ -44,8 +49,8 @@ to-node c = c .before
 abbrev to-header : tie.Else2 → tie.Else1
 to-header c = c .before .before .before .before .before
 
-past6 : (c : tie.Else2) → answer (theoryRows (image (to-header c))) 1 ≡ answer (row7 (image (to-header c)) ∷ []) 1
-past6 c = past (to-header c) ∙ firstSuch-past 6 _ _ _ (node-is (to-node c)) (row7 (image (to-header c)) ∷ []) 1 (rw (nodes-are (to-node c)) at (c .if2 .left))
+past6 : (c : tie.Else2) → Reached (theoryRows (image (to-header c))) 1 (row7 (image (to-header c)) ∷ [])
+past6 c = firstSuch-next 6 _ _ _ (node-is (to-node c)) (past (to-header c)) (rw (nodes-are (to-node c)) at (c .if2 .left))
 
 roots-are : (c : tie.After-first-bad-root) → c .before .before .roots .result ≡ rootCount (image (to-header (c .before .before .before)))
 roots-are c = c .before .before .roots .ensures .0
@@ -88,9 +93,7 @@ refuse-requires c κs = search needs
 returns-2 : tie.Need-returns-2
 returns-2 c =
     let found = c .before .before in
-    let clear = found .before .before .before .before in
-    c .refuse .ensures
-    ∙ sym (past clear ∙ firstSuch-refused 6 _ _ _ (node-is found) (row7 (image clear) ∷ []) 1 (rw (nodes-are found) at (c .before .if2 .taken)))
+    firstSuch-refused 6 _ _ _ (node-is found) (past (found .before .before .before .before)) (rw (nodes-are found) at (c .before .if2 .taken)) (c .refuse .ensures)
 
 mul-start : tie.Need-mul-start
 mul-start c = search needs
@@ -121,7 +124,7 @@ refuse-requires-2 c κs = search needs
 returns-3 : tie.Need-returns-3
 returns-3 c =
     let found = c .before .before in
-    c .refuse2 .ensures ∙ sym (past6 (found .before .before .before) ∙ firstSuch-refused 7 _ _ _ (root-is found) [] 1 (rw (roots-are found) at (c .before .if3 .taken)))
+    firstSuch-refused 7 _ _ _ (root-is found) (past6 (found .before .before .before)) (rw (roots-are found) at (c .before .if3 .taken)) (c .refuse2 .ensures)
 
 accept-requires : tie.Need-accept-requires
 accept-requires c κs = search needs
@@ -129,7 +132,7 @@ accept-requires c κs = search needs
 returns-4 : tie.Need-returns-4
 returns-4 c =
     let found = c .before .before in
-    c .accept .ensures ∙ sym (past6 (found .before .before .before) ∙ firstSuch-past 7 _ _ _ (root-is found) [] 1 (rw (roots-are found) at (c .before .if3 .left)))
+    reached-accepted (firstSuch-next 7 _ _ _ (root-is found) (past6 (found .before .before .before)) (rw (roots-are found) at (c .before .if3 .left))) (c .accept .ensures)
 
 pub check-spec : {M : Type 1} → statement M
 check-spec =

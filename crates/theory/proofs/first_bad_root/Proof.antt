@@ -1,5 +1,4 @@
 -- `first_bad_root` gives the first root that is no node: before each turn it has not passed that root. Assumes nothing.
-use mathlib.Core.Path.{sym}
 use mathlib.Core.Bool.{not}
 use Prim.Native.Nat.{_-_, _≤_}
 use lib.Dec.{ltb}
@@ -28,7 +27,7 @@ u16-at-requires c κs = search needs
 
 returns : tie.Need-returns Inv-loop μ-loop
 returns c =
-    sym (first-here _ _ _ (c .before .before .before .loop .inv) (rw (← c .before .u16-at .ensures .0, le-ltb _ _ (c .if1 .taken))))
+    first-here _ _ _ (c .before .before .before .loop .inv) (rw (← c .before .u16-at .ensures .0, le-ltb _ _ (c .if1 .taken)))
 
 add-i : tie.Need-add-i Inv-loop μ-loop
 add-i c = search needs
@@ -42,7 +41,7 @@ loop-again c =
     first-on _ _ _ (turn .before .loop .inv) (turn .loop-test .taken) (rw (← c .before .u16-at .ensures .0, lt-ltb _ _ (c .if1 .left)))
 
 returns-2 : tie.Need-returns-2 Inv-loop μ-loop
-returns-2 c = sym (first-end _ _ _ (c .before .loop .inv) (c .loop-test .left))
+returns-2 c = first-end _ _ _ (c .before .loop .inv) (c .loop-test .left)
 
 pub first-bad-root-spec : {M : Type 1} → statement M
 first-bad-root-spec =
