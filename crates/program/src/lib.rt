@@ -106,7 +106,7 @@ pub fn check(program: &[u8]) -> Answer
     if program.len() != total {
         return refusal::refuse(25, total);
     }
-    let broken = first_broken(&program[HEADER_LENGTH..], count, size);
+    let broken = first_broken_rule(&program[HEADER_LENGTH..], count, size);
     if broken < count {
         return refusal::refuse(26, broken);
     }
@@ -122,7 +122,7 @@ fn is_outside(atoms: usize, size: usize, count: usize) -> bool
 }
 
 // The first rule that row 26 is about, and `count` where there is none.
-fn first_broken(rules: &[u8], count: usize, size: usize) -> usize
+fn first_broken_rule(rules: &[u8], count: usize, size: usize) -> usize
     requires { ⌜ ruleStart count ≤ length (now rules) ⌝ }
     ensures { λ r. ⌜ r ≡ first (λ k. not (ruleKeeps size (now (rules .entry)) k)) count ⌝ }
 {

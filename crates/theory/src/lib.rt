@@ -127,7 +127,7 @@ fn keeps(nodes: &[u8], k: usize, atoms: usize) -> bool
 }
 
 // The first node that does not keep to its row, and the count where each does.
-fn first_bad_node(nodes: &[u8], atoms: usize, count: usize) -> usize
+fn first_broken_node(nodes: &[u8], atoms: usize, count: usize) -> usize
     requires { ⌜ count * 6 ≤ length (now nodes) ⌝ }
     ensures { λ r. ⌜ r ≡ first (λ k. not (nodeKeeps atoms (now (nodes .entry)) k)) count ⌝ }
 {
@@ -142,7 +142,7 @@ fn first_bad_node(nodes: &[u8], atoms: usize, count: usize) -> usize
 }
 
 // The index of the first root that is not below the number of nodes, and the count where each is.
-fn first_bad_root(roots: &[u8], nodes: usize, count: usize) -> usize
+fn first_root_not_below(roots: &[u8], nodes: usize, count: usize) -> usize
     requires { ⌜ count * 2 ≤ length (now roots) ⌝ }
     ensures { λ r. ⌜ r ≡ first (λ i. not (ltb (rootIn (now (roots .entry)) i) nodes)) count ⌝ }
 {
@@ -165,13 +165,13 @@ pub fn check(theory: &[u8]) -> Answer
         return answer;
     }
     let node_count = nodes(theory);
-    let node = first_bad_node(&theory[16..], atoms(theory), node_count);
+    let node = first_broken_node(&theory[16..], atoms(theory), node_count);
     if node < node_count {
         return refusal::refuse(6, node);
     }
     let start = 16 + node_count * 6;
     let root_count = roots(theory);
-    let root = first_bad_root(&theory[start..], node_count, root_count);
+    let root = first_root_not_below(&theory[start..], node_count, root_count);
     if root < root_count {
         return refusal::refuse(7, root);
     }

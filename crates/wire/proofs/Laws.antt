@@ -1,12 +1,13 @@
 -- Laws of numbers in bytes, by linear arithmetic, of numbers below a bound, by induction, and of `over`, by cutting a list where the written part ends. Assumes nothing.
-use mathlib.Core.Path.{_≡_, refl, ap, ap₂, _∙_}
+use mathlib.Core.Path.{_≡_, refl, sym, ap, ap₂, _∙_}
 use mathlib.Core.Bool.{true, and-eq-true-iff}
 use mathlib.Core.List.{List, [], _∷_, _++_, append-assoc, append-nil}
 use Prim.Native.Nat.{ℕ, zero, suc, _+_, _-_, _*_, _/_, _%_, _≤_, _<_}
+use native.Mathlib.Numerals.{add-one}
 use native.Mathlib.Omega.{arith}
 use lib.Dec.{ltb}
-use lib.ListN.{length, getD, take, drop, length-append, length-drop, length-take}
-use lib.Seq.{take-all, take-length, drop-length, take-append-seam, drop-append-seam, drop-drop, getD-append-add}
+use lib.ListN.{length, getD, take, drop, set, length-append, length-drop, length-take}
+use lib.Seq.{take-all, take-length, drop-length, take-append-seam, drop-append-seam, drop-drop, drop-cons, set-at, append-snoc, getD-append-add}
 use borrow.Author.Tests.{lt-ltb, ltb-true}
 use borrow.Rule.Slice.PartMut.{putMid}
 use Rattle.wire.specs.Wire.{u16At, u32At, u16Bytes, u32Bytes, Bytes, allBelow, over}
@@ -74,6 +75,11 @@ take-over new old = take-append-seam new (drop (length new) old)
 -- the part past it is unchanged
 pub drop-over : (new old : List ℕ) → drop (length new) (over new old) ≡ drop (length new) old
 drop-over new old = drop-append-seam new (drop (length new) old)
+
+-- one byte more, stored behind those written
+pub over-store : (new old : List ℕ) (k byte : ℕ) → length new ≡ k → k < length old → set (over new old) k byte ≡ over (new ++ (byte ∷ [])) old
+over-store new old k byte e h =
+    rw (length-append, e, add-one, drop-cons old k 0 h, set-at new _ _ byte k e) (sym (append-snoc new byte (drop (suc k) old)))
 
 -- Where a writer stands: `out` is `done` written over `old`, and `at` is where the unwritten rest begins.
 pub record Written (done old out : List ℕ) (at : ℕ) : Type 0 where

@@ -2,7 +2,7 @@
 use mathlib.Core.Path.{_≡_, sym, _∙_}
 use mathlib.Core.Logic.{⊎-elim}
 use mathlib.Core.List.{List}
-use Prim.Native.Nat.{ℕ, _+_}
+use Prim.Native.Nat.{ℕ}
 use native.Mathlib.Omega.{arith}
 use lib.ListN.{drop, length-drop}
 use denote.Ref.{now}
@@ -50,12 +50,12 @@ numbers : (c : tie.After-is-outside) → row22 (image21 (c .before .before .befo
 numbers c = sym (c .is-outside .ensures ∙ simp (c .before .u16-at3 .ensures .0, c .before .before .u16-at2 .ensures .0, c .before .before .before .u16-at .ensures .0))
 
 -- the first broken rule is the place of row 26
-broken : (c : tie.After-first-broken) → c .first-broken .result ≡ row26 (image25 (c .before .before)) .place
+broken : (c : tie.After-first-broken-rule) → c .first-broken-rule .result ≡ row26 (image25 (c .before .before)) .place
 broken c =
     let p = image25 (c .before .before) in
     let third = c .before .before .before .before .before .before .before .before in
     let size = third .before .before .before .before .before .before .u16-at .ensures .0 in
-    rw (part-from headerLength p, size, count third) at (c .first-broken .ensures)
+    rw (part-from headerLength p, size, count third) at (c .first-broken-rule .ensures)
 
 first : (c : tie.Start) → At 0 (image c)
 first c = reached-first (programRows (image c)) 1
@@ -154,17 +154,17 @@ returns-5 c =
     let total = past .before .before .before .before .u32-at .ensures .0 in
     reached-refused (past24 past) (rw (← total, ne-eqb _ _ (c .before .if6 .taken))) (rw (← total) (c .refuse5 .ensures))
 
-sub-first-broken : tie.Need-sub-first-broken
-sub-first-broken c = search needs
+sub-first-broken-rule : tie.Need-sub-first-broken-rule
+sub-first-broken-rule c = search needs
 
-part-first-broken-start : tie.Need-part-first-broken-start
-part-first-broken-start c = search needs
+part-first-broken-rule-start : tie.Need-part-first-broken-rule-start
+part-first-broken-rule-start c = search needs
 
-part-first-broken-end : tie.Need-part-first-broken-end
-part-first-broken-end c = search needs
+part-first-broken-rule-end : tie.Need-part-first-broken-rule-end
+part-first-broken-rule-end c = search needs
 
-first-broken-requires : tie.Need-first-broken-requires
-first-broken-requires c κs =
+first-broken-rule-requires : tie.Need-first-broken-rule-requires
+first-broken-rule-requires c κs =
     let read = c .before .before .before .before .before in
     let total : read .before .u32-at .result ≡ read .image-length .result = eqb-true _ _ (not-false _ (c .before .before .if5 .left)) in
     rw (part-from, length-drop) (omega arith)
@@ -211,10 +211,10 @@ check-spec =
     returns-4
     refuse-requires-5
     returns-5
-    sub-first-broken
-    part-first-broken-start
-    part-first-broken-end
-    first-broken-requires
+    sub-first-broken-rule
+    part-first-broken-rule-start
+    part-first-broken-rule-end
+    first-broken-rule-requires
     refuse-requires-6
     returns-6
     accept-requires

@@ -35,15 +35,15 @@ is-header : (c : tie.Else1) → Header (image c)
 is-header c = header-accepted (image c) (clear c)
 
 -- each place found is its row's place
-nodes-are : (c : tie.After-first-bad-node) → c .before .before .before .nodes .result ≡ nodeCount (image (c .before .before .before .before))
+nodes-are : (c : tie.After-first-broken-node) → c .before .before .before .nodes .result ≡ nodeCount (image (c .before .before .before .before))
 nodes-are c = c .before .before .before .nodes .ensures .0
 
-node-is : (c : tie.After-first-bad-node) → c .first-bad-node .result ≡ row6 (image (c .before .before .before .before)) .place
+node-is : (c : tie.After-first-broken-node) → c .first-broken-node .result ≡ row6 (image (c .before .before .before .before)) .place
 node-is c =
     let t = image (c .before .before .before .before) in
-    rw (← c .before .atoms .ensures .0, ← nodes-are c, ← part-from 16 t) (c .first-bad-node .ensures)
+    rw (← c .before .atoms .ensures .0, ← nodes-are c, ← part-from 16 t) (c .first-broken-node .ensures)
 
-abbrev to-node : tie.Else2 → tie.After-first-bad-node
+abbrev to-node : tie.Else2 → tie.After-first-broken-node
 to-node c = c .before
 
 abbrev to-header : tie.Else2 → tie.Else1
@@ -52,13 +52,13 @@ to-header c = c .before .before .before .before .before
 past6 : (c : tie.Else2) → Reached (theoryRows (image (to-header c))) 1 (row7 (image (to-header c)) ∷ [])
 past6 c = firstSuch-next 6 _ _ _ (node-is (to-node c)) (past (to-header c)) (rw (nodes-are (to-node c)) at (c .if2 .left))
 
-roots-are : (c : tie.After-first-bad-root) → c .before .before .roots .result ≡ rootCount (image (to-header (c .before .before .before)))
+roots-are : (c : tie.After-first-root-not-below) → c .before .before .roots .result ≡ rootCount (image (to-header (c .before .before .before)))
 roots-are c = c .before .before .roots .ensures .0
 
-root-is : (c : tie.After-first-bad-root) → c .first-bad-root .result ≡ row7 (image (to-header (c .before .before .before))) .place
+root-is : (c : tie.After-first-root-not-below) → c .first-root-not-below .result ≡ row7 (image (to-header (c .before .before .before))) .place
 root-is c =
     let t = image (to-header (c .before .before .before)) in
-    rw (← roots-are c, ← part-from (16 + nodeCount t * 6) t, ← nodes-are (to-node (c .before .before .before))) (c .first-bad-root .ensures)
+    rw (← roots-are c, ← part-from (16 + nodeCount t * 6) t, ← nodes-are (to-node (c .before .before .before))) (c .first-root-not-below .ensures)
 
 header-requires : tie.Need-header-requires
 header-requires c κs = search needs
@@ -70,20 +70,20 @@ returns c = answer-refused (headerRows _) _ 0 1 (c .before .before .header .ensu
 nodes-requires : tie.Need-nodes-requires
 nodes-requires c κs = is-header c .long
 
-sub-first-bad-node : tie.Need-sub-first-bad-node
-sub-first-bad-node c = is-header (c .before) .long
+sub-first-broken-node : tie.Need-sub-first-broken-node
+sub-first-broken-node c = is-header (c .before) .long
 
-part-first-bad-node-start : tie.Need-part-first-bad-node-start
-part-first-bad-node-start c = is-header (c .before) .long
+part-first-broken-node-start : tie.Need-part-first-broken-node-start
+part-first-broken-node-start c = is-header (c .before) .long
 
-part-first-bad-node-end : tie.Need-part-first-bad-node-end
-part-first-bad-node-end c = search needs
+part-first-broken-node-end : tie.Need-part-first-broken-node-end
+part-first-broken-node-end c = search needs
 
 atoms-requires : tie.Need-atoms-requires
 atoms-requires c κs = is-header (c .before .before) .long
 
-first-bad-node-requires : tie.Need-first-bad-node-requires
-first-bad-node-requires c κs =
+first-broken-node-requires : tie.Need-first-broken-node-requires
+first-broken-node-requires c κs =
     let head = is-header (c .before .before .before) in
     rw (part-from, length-drop) (omega (arith, head))
 
@@ -104,17 +104,17 @@ add-start c = search needs
 roots-requires : tie.Need-roots-requires
 roots-requires c κs = is-header (c .before .before .before .before .before) .long
 
-sub-first-bad-root : tie.Need-sub-first-bad-root
-sub-first-bad-root c = omega (arith, is-header (to-header (c .before)), nodes-are (to-node (c .before)))
+sub-first-root-not-below : tie.Need-sub-first-root-not-below
+sub-first-root-not-below c = omega (arith, is-header (to-header (c .before)), nodes-are (to-node (c .before)))
 
-part-first-bad-root-start : tie.Need-part-first-bad-root-start
-part-first-bad-root-start c = omega (arith, is-header (to-header (c .before)), nodes-are (to-node (c .before)))
+part-first-root-not-below-start : tie.Need-part-first-root-not-below-start
+part-first-root-not-below-start c = omega (arith, is-header (to-header (c .before)), nodes-are (to-node (c .before)))
 
-part-first-bad-root-end : tie.Need-part-first-bad-root-end
-part-first-bad-root-end c = search needs
+part-first-root-not-below-end : tie.Need-part-first-root-not-below-end
+part-first-root-not-below-end c = search needs
 
-first-bad-root-requires : tie.Need-first-bad-root-requires
-first-bad-root-requires c κs =
+first-root-not-below-requires : tie.Need-first-root-not-below-requires
+first-root-not-below-requires c κs =
     let head = is-header (to-header (c .before .before)) in
     rw (part-from, length-drop) (omega (arith, head, nodes-are (to-node (c .before .before))))
 
@@ -141,20 +141,20 @@ check-spec =
     header-requires
     returns
     nodes-requires
-    sub-first-bad-node
-    part-first-bad-node-start
-    part-first-bad-node-end
+    sub-first-broken-node
+    part-first-broken-node-start
+    part-first-broken-node-end
     atoms-requires
-    first-bad-node-requires
+    first-broken-node-requires
     refuse-requires
     returns-2
     mul-start
     add-start
     roots-requires
-    sub-first-bad-root
-    part-first-bad-root-start
-    part-first-bad-root-end
-    first-bad-root-requires
+    sub-first-root-not-below
+    part-first-root-not-below-start
+    part-first-root-not-below-end
+    first-root-not-below-requires
     refuse-requires-2
     returns-3
     accept-requires

@@ -1,19 +1,19 @@
--- `first_broken` tries the rules from the first on, and before each turn it has not passed the first that breaks row 26. Assumes nothing.
+-- `first_broken_node` gives the first node that breaks its row: before each turn it has not passed that node. Assumes nothing.
 use mathlib.Core.Path.{sym, ap, _∙_}
 use mathlib.Core.Bool.{not}
 use Prim.Native.Nat.{_-_, _≤_}
 use borrow.Author.Needs.{needs}
 use Rattle.refusal.specs.First.{first}
 use Rattle.refusal.proofs.First.{first-here, first-on, first-end}
-use Rattle.program.specs.Image.{ruleKeeps}
-use Rattle.program.proofs.first_broken.Statement.{statement}
-use Rattle.program.proofs.first_broken.Tie as tie
+use Rattle.theory.specs.Image.{nodeKeeps}
+use Rattle.theory.proofs.first_broken_node.Statement.{statement}
+use Rattle.theory.proofs.first_broken_node.Tie as tie
 
 abbrev Inv-loop : tie.InvT-loop
-Inv-loop rules count size place₀ place = place ≤ first (λ j. not (ruleKeeps size rules j)) count
+Inv-loop nodes atoms count k₀ k = k ≤ first (λ j. not (nodeKeeps atoms nodes j)) count
 
 abbrev μ-loop : tie.MeasureT-loop
-μ-loop rules count size place₀ place = count - place
+μ-loop nodes atoms count k₀ k = count - k
 
 loop-holds : tie.Need-loop-holds Inv-loop μ-loop
 loop-holds c = search needs
@@ -23,11 +23,10 @@ keeps-requires c κs = search needs
 
 returns : tie.Need-returns Inv-loop μ-loop
 returns c =
-    let turn = c .before .before in
-    first-here _ _ _ (turn .before .loop .inv) (ap not (sym (c .before .keeps .ensures)) ∙ c .if1 .taken)
+    first-here _ _ _ (c .before .before .before .loop .inv) (ap not (sym (c .before .keeps .ensures)) ∙ c .if1 .taken)
 
-add-place : tie.Need-add-place Inv-loop μ-loop
-add-place c = search needs
+add-k : tie.Need-add-k Inv-loop μ-loop
+add-k c = search needs
 
 loop-less : tie.Need-loop-less Inv-loop μ-loop
 loop-less c = search needs
@@ -40,8 +39,8 @@ loop-again c =
 returns-2 : tie.Need-returns-2 Inv-loop μ-loop
 returns-2 c = first-end _ _ _ (c .before .loop .inv) (c .loop-test .left)
 
-pub first-broken-spec : {M : Type 1} → statement M
-first-broken-spec =
+pub first-broken-node-spec : {M : Type 1} → statement M
+first-broken-node-spec =
     tie.close
     (tie.spec
     Inv-loop
@@ -49,7 +48,7 @@ first-broken-spec =
     loop-holds
     keeps-requires
     returns
-    add-place
+    add-k
     loop-less
     loop-again
     returns-2)

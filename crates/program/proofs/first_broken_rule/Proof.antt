@@ -1,19 +1,19 @@
--- `first_bad_node` gives the first node that breaks its row: before each turn it has not passed that node. Assumes nothing.
+-- `first_broken_rule` tries the rules from the first on, and before each turn it has not passed the first that breaks row 26. Assumes nothing.
 use mathlib.Core.Path.{sym, ap, _∙_}
 use mathlib.Core.Bool.{not}
 use Prim.Native.Nat.{_-_, _≤_}
 use borrow.Author.Needs.{needs}
 use Rattle.refusal.specs.First.{first}
 use Rattle.refusal.proofs.First.{first-here, first-on, first-end}
-use Rattle.theory.specs.Image.{nodeKeeps}
-use Rattle.theory.proofs.first_bad_node.Statement.{statement}
-use Rattle.theory.proofs.first_bad_node.Tie as tie
+use Rattle.program.specs.Image.{ruleKeeps}
+use Rattle.program.proofs.first_broken_rule.Statement.{statement}
+use Rattle.program.proofs.first_broken_rule.Tie as tie
 
 abbrev Inv-loop : tie.InvT-loop
-Inv-loop nodes atoms count k₀ k = k ≤ first (λ j. not (nodeKeeps atoms nodes j)) count
+Inv-loop rules count size place₀ place = place ≤ first (λ j. not (ruleKeeps size rules j)) count
 
 abbrev μ-loop : tie.MeasureT-loop
-μ-loop nodes atoms count k₀ k = count - k
+μ-loop rules count size place₀ place = count - place
 
 loop-holds : tie.Need-loop-holds Inv-loop μ-loop
 loop-holds c = search needs
@@ -23,10 +23,11 @@ keeps-requires c κs = search needs
 
 returns : tie.Need-returns Inv-loop μ-loop
 returns c =
-    first-here _ _ _ (c .before .before .before .loop .inv) (ap not (sym (c .before .keeps .ensures)) ∙ c .if1 .taken)
+    let turn = c .before .before in
+    first-here _ _ _ (turn .before .loop .inv) (ap not (sym (c .before .keeps .ensures)) ∙ c .if1 .taken)
 
-add-k : tie.Need-add-k Inv-loop μ-loop
-add-k c = search needs
+add-place : tie.Need-add-place Inv-loop μ-loop
+add-place c = search needs
 
 loop-less : tie.Need-loop-less Inv-loop μ-loop
 loop-less c = search needs
@@ -39,8 +40,8 @@ loop-again c =
 returns-2 : tie.Need-returns-2 Inv-loop μ-loop
 returns-2 c = first-end _ _ _ (c .before .loop .inv) (c .loop-test .left)
 
-pub first-bad-node-spec : {M : Type 1} → statement M
-first-bad-node-spec =
+pub first-broken-rule-spec : {M : Type 1} → statement M
+first-broken-rule-spec =
     tie.close
     (tie.spec
     Inv-loop
@@ -48,7 +49,7 @@ first-bad-node-spec =
     loop-holds
     keeps-requires
     returns
-    add-k
+    add-place
     loop-less
     loop-again
     returns-2)
