@@ -2,14 +2,14 @@
 use mathlib.Core.Path.{_≡_}
 use mathlib.Core.Bool.{true}
 use mathlib.Core.List.{List, [], _∷_}
-use Prim.Native.Nat.{ℕ, _+_, _*_}
+use Prim.Native.Nat.{ℕ}
 use native.Mathlib.Omega.{arith}
 use lib.ListN.{length-drop}
 use denote.Ref.{now}
 use borrow.Author.Needs.{needs}
 use Rattle.refusal.specs.Table.{none}
 use Rattle.refusal.proofs.Table.{answer-refused, none-accepted, Reached, reached-past, reached-accepted}
-use Rattle.theory.specs.Image.{nodeCount, rootCount}
+use Rattle.theory.specs.Image.{nodeCount, rootCount, rootsStart}
 use Rattle.theory.specs.Rows.{row6, row7, headerRows, theoryRows}
 use Rattle.wire.proofs.Laws.{part-from}
 use Rattle.refusal.proofs.First.{firstSuch-refused, firstSuch-next}
@@ -52,13 +52,16 @@ to-header c = c .before .before .before .before .before
 past6 : (c : tie.Else2) → Reached (theoryRows (image (to-header c))) 1 (row7 (image (to-header c)) ∷ [])
 past6 c = firstSuch-next 6 _ _ _ (node-is (to-node c)) (past (to-header c)) (rw (nodes-are (to-node c)) at (c .if2 .left))
 
-roots-are : (c : tie.After-first-root-not-below) → c .before .before .roots .result ≡ rootCount (image (to-header (c .before .before .before)))
+roots-are : (c : tie.After-first-root-not-below) → c .before .before .roots .result ≡ rootCount (image (to-header (c .before .before .before .before)))
 roots-are c = c .before .before .roots .ensures .0
 
-root-is : (c : tie.After-first-root-not-below) → c .first-root-not-below .result ≡ row7 (image (to-header (c .before .before .before))) .place
+start-is : (c : tie.After-first-root-not-below) → c .before .before .before .roots-start .result ≡ rootsStart (nodeCount (image (to-header (c .before .before .before .before))))
+start-is c = c .before .before .before .roots-start .ensures .0
+
+root-is : (c : tie.After-first-root-not-below) → c .first-root-not-below .result ≡ row7 (image (to-header (c .before .before .before .before))) .place
 root-is c =
-    let t = image (to-header (c .before .before .before)) in
-    rw (← roots-are c, ← part-from (16 + nodeCount t * 6) t, ← nodes-are (to-node (c .before .before .before))) (c .first-root-not-below .ensures)
+    let t = image (to-header (c .before .before .before .before)) in
+    rw (← roots-are c, ← part-from (rootsStart (nodeCount t)) t, ← start-is c, ← nodes-are (to-node (c .before .before .before .before))) (c .first-root-not-below .ensures)
 
 header-requires : tie.Need-header-requires
 header-requires c κs = search needs
@@ -95,28 +98,25 @@ returns-2 c =
     let found = c .before .before in
     firstSuch-refused 6 _ _ _ (node-is found) (past (found .before .before .before .before)) (rw (nodes-are found) at (c .before .if2 .taken)) (c .refuse .ensures)
 
-mul-start : tie.Need-mul-start
-mul-start c = search needs
-
-add-start : tie.Need-add-start
-add-start c = search needs
+roots-start-requires : tie.Need-roots-start-requires
+roots-start-requires c κs = is-header (to-header c) .long
 
 roots-requires : tie.Need-roots-requires
-roots-requires c κs = is-header (c .before .before .before .before .before) .long
+roots-requires c κs = is-header (to-header (c .before)) .long
 
 sub-first-root-not-below : tie.Need-sub-first-root-not-below
-sub-first-root-not-below c = omega (arith, is-header (to-header (c .before)), nodes-are (to-node (c .before)))
+sub-first-root-not-below c = omega (arith, is-header (to-header (c .before .before)), c .before .roots-start .ensures .0)
 
 part-first-root-not-below-start : tie.Need-part-first-root-not-below-start
-part-first-root-not-below-start c = omega (arith, is-header (to-header (c .before)), nodes-are (to-node (c .before)))
+part-first-root-not-below-start c = omega (arith, is-header (to-header (c .before .before)), c .before .roots-start .ensures .0)
 
 part-first-root-not-below-end : tie.Need-part-first-root-not-below-end
 part-first-root-not-below-end c = search needs
 
 first-root-not-below-requires : tie.Need-first-root-not-below-requires
 first-root-not-below-requires c κs =
-    let head = is-header (to-header (c .before .before)) in
-    rw (part-from, length-drop) (omega (arith, head, nodes-are (to-node (c .before .before))))
+    let head = is-header (to-header (c .before .before .before)) in
+    rw (part-from, length-drop) (omega (arith, head, c .before .before .roots-start .ensures .0))
 
 refuse-requires-2 : tie.Need-refuse-requires-2
 refuse-requires-2 c κs = search needs
@@ -124,7 +124,7 @@ refuse-requires-2 c κs = search needs
 returns-3 : tie.Need-returns-3
 returns-3 c =
     let found = c .before .before in
-    firstSuch-refused 7 _ _ _ (root-is found) (past6 (found .before .before .before)) (rw (roots-are found) at (c .before .if3 .taken)) (c .refuse2 .ensures)
+    firstSuch-refused 7 _ _ _ (root-is found) (past6 (found .before .before .before .before)) (rw (roots-are found) at (c .before .if3 .taken)) (c .refuse2 .ensures)
 
 accept-requires : tie.Need-accept-requires
 accept-requires c κs = search needs
@@ -132,7 +132,7 @@ accept-requires c κs = search needs
 returns-4 : tie.Need-returns-4
 returns-4 c =
     let found = c .before .before in
-    reached-accepted (firstSuch-next 7 _ _ _ (root-is found) (past6 (found .before .before .before)) (rw (roots-are found) at (c .before .if3 .left))) (c .accept .ensures)
+    reached-accepted (firstSuch-next 7 _ _ _ (root-is found) (past6 (found .before .before .before .before)) (rw (roots-are found) at (c .before .if3 .left))) (c .accept .ensures)
 
 pub check-spec : {M : Type 1} → statement M
 check-spec =
@@ -148,8 +148,7 @@ check-spec =
     first-broken-node-requires
     refuse-requires
     returns-2
-    mul-start
-    add-start
+    roots-start-requires
     roots-requires
     sub-first-root-not-below
     part-first-root-not-below-start

@@ -7,7 +7,7 @@ use denote.Ref.{now}
 use borrow.Author.Needs.{needs}
 use borrow.Author.Tests.{lt-ltb, le-ltb, eq-eqb, ne-eqb}
 use Rattle.refusal.proofs.Table.{Reached, reached-first, reached-next, reached-refused, reached-accepted}
-use Rattle.theory.specs.Image.{nodeCount, rootCount}
+use Rattle.theory.specs.Image.{nodeCount, rootCount, rootsStart}
 use Rattle.theory.specs.Rows.{row2, row4, headerRows}
 use Rattle.theory.proofs.header.Statement.{statement}
 use Rattle.theory.proofs.header.Tie as tie
@@ -30,20 +30,21 @@ abbrev image3 : tie.Else3 → List ℕ
 image3 c = image2 (c .before .before)
 
 abbrev image4 : tie.Else4 → List ℕ
-image4 c = image3 (c .before .before)
+image4 c = image3 (c .before .before .before)
 
-nodes-are : (c : tie.Else2) → c .before .before .before .before .nodes .result ≡ nodeCount (image2 c)
-nodes-are c = c .before .before .before .before .nodes .ensures .0
+-- R and the start of the roots, as they were read
+roots-are : (c : tie.Else2) → c .before .before .before .before .roots .result ≡ rootCount (image2 c)
+roots-are c = c .before .before .before .before .roots .ensures .0
 
-roots-are : (c : tie.Else2) → c .before .before .before .roots .result ≡ rootCount (image2 c)
-roots-are c = c .before .before .before .roots .ensures .0
+start-is : (c : tie.After-roots-start) → c .roots-start .result ≡ rootsStart (nodeCount (image3 (c .before)))
+start-is c = c .roots-start .ensures .0
 
 limits : (c : tie.After-over-limits) → row2 (image1 (c .before .before .before .before)) .applies ≡ c .over-limits .result
 limits c =
-    sym (c .over-limits .ensures ∙ rw (c .before .atoms .ensures .0, c .before .before .before .nodes .ensures .0, c .before .before .roots .ensures .0))
+    sym (c .over-limits .ensures ∙ rw (c .before .before .atoms .ensures .0, c .before .nodes .ensures .0, c .before .before .before .roots .ensures .0))
 
-offsets : (c : tie.After-offsets-differ) → row4 (image3 (c .before)) .applies ≡ c .offsets-differ .result
-offsets c = rw (← nodes-are (c .before .before .before)) (sym (c .offsets-differ .ensures))
+offsets : (c : tie.After-offsets-differ) → row4 (image3 (c .before .before)) .applies ≡ c .offsets-differ .result
+offsets c = rw (← start-is (c .before)) (sym (c .offsets-differ .ensures))
 
 first : (c : tie.Start) → At 0 (image c)
 first c = reached-first (headerRows (image c)) 0
@@ -62,7 +63,7 @@ past3 c = reached-next (past2 (c .before .before)) (rw (← c .before .u16-at .e
 
 past4 : (c : tie.Else4) → At 4 (image4 c)
 unfolding headerRows
-past4 c = reached-next (past3 (c .before .before)) (offsets (c .before) ∙ c .if4 .left)
+past4 c = reached-next (past3 (c .before .before .before)) (offsets (c .before) ∙ c .if4 .left)
 
 refuse-requires : tie.Need-refuse-requires
 refuse-requires c κs = search needs
@@ -71,14 +72,14 @@ returns : tie.Need-returns
 unfolding headerRows
 returns c = reached-refused (first (c .before .before .before)) (lt-ltb _ _ (c .before .if1 .taken)) (c .refuse .ensures)
 
-nodes-requires : tie.Need-nodes-requires
-nodes-requires c κs = search needs
-
 roots-requires : tie.Need-roots-requires
 roots-requires c κs = search needs
 
 atoms-requires : tie.Need-atoms-requires
 atoms-requires c κs = search needs
+
+nodes-requires : tie.Need-nodes-requires
+nodes-requires c κs = search needs
 
 over-limits-requires : tie.Need-over-limits-requires
 over-limits-requires c κs = search needs
@@ -104,11 +105,8 @@ returns-3 c =
     let read = c .before .before in
     reached-refused (past2 (read .before)) (rw (← read .u16-at .ensures .0, ne-eqb _ 0 (c .before .if3 .taken))) (c .refuse3 .ensures)
 
-mul-start : tie.Need-mul-start
-mul-start c = search needs
-
-add-start : tie.Need-add-start
-add-start c = search needs
+roots-start-requires : tie.Need-roots-start-requires
+roots-start-requires c κs = search needs
 
 offsets-differ-requires : tie.Need-offsets-differ-requires
 offsets-differ-requires c κs = search needs
@@ -120,7 +118,7 @@ returns-4 : tie.Need-returns-4
 unfolding headerRows
 returns-4 c =
     let differ = c .before .before in
-    reached-refused (past3 (differ .before)) (offsets differ ∙ c .before .if4 .taken) (c .refuse4 .ensures)
+    reached-refused (past3 (differ .before .before)) (offsets differ ∙ c .before .if4 .taken) (c .refuse4 .ensures)
 
 mul-wanted : tie.Need-mul-wanted
 mul-wanted c = search needs
@@ -135,8 +133,9 @@ returns-5 : tie.Need-returns-5
 unfolding headerRows
 returns-5 c =
     let past = c .before .before in
-    let counts = past .before .before .before .before in
-    reached-refused (past4 past) (rw (← nodes-are counts, ← roots-are counts, ne-eqb _ _ (c .before .if5 .taken))) (rw (← nodes-are counts, ← roots-are counts) (c .refuse5 .ensures))
+    let start = past .before .before in
+    let roots = roots-are (start .before .before .before) in
+    reached-refused (past4 past) (rw (← start-is start, ← roots, ne-eqb _ _ (c .before .if5 .taken))) (rw (← start-is start, ← roots) (c .refuse5 .ensures))
 
 accept-requires : tie.Need-accept-requires
 accept-requires c κs = search needs
@@ -145,8 +144,8 @@ returns-6 : tie.Need-returns-6
 unfolding headerRows
 returns-6 c =
     let past = c .before .before in
-    let counts = past .before .before .before .before in
-    reached-accepted (reached-next (past4 past) (rw (← nodes-are counts, ← roots-are counts, eq-eqb _ _ (c .before .if5 .left)))) (c .accept .ensures)
+    let start = past .before .before in
+    reached-accepted (reached-next (past4 past) (rw (← start-is start, ← roots-are (start .before .before .before), eq-eqb _ _ (c .before .if5 .left)))) (c .accept .ensures)
 
 pub header-spec : {M : Type 1} → statement M
 header-spec =
@@ -154,17 +153,16 @@ header-spec =
     (tie.spec
     refuse-requires
     returns
-    nodes-requires
     roots-requires
     atoms-requires
+    nodes-requires
     over-limits-requires
     refuse-requires-2
     returns-2
     u16-at-requires
     refuse-requires-3
     returns-3
-    mul-start
-    add-start
+    roots-start-requires
     offsets-differ-requires
     refuse-requires-4
     returns-4
