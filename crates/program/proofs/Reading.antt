@@ -95,10 +95,11 @@ module _ (B : ℕ) (small : B ≤ 65536) where
         = omega (arith, length-append (r .heads) (r .positives ++ r .negatives), length-append (r .positives) (r .negatives)) in
         rw (slots-read 0, slots-read 1, slots-read 2, used, le-leb _ _ few, slot-keeps B (literals r) below 0, slot-keeps B (literals r) below 1, slot-keeps B (literals r) below 2)
 
-  -- Rule k of the rules written is the k-th, and keeps row 26.
+  -- The first of writable rules is one, and those behind it are.
   rules-written : (r : Rule) (rs : List Rule) → rulesWritable B (r ∷ rs) ≡ true → (ruleWritable B r ≡ true) × (rulesWritable B rs ≡ true)
   rules-written r rs w = &&-split (ruleWritable B r) (rulesWritable B rs) w
 
+  -- Rule k of the rules written is the k-th, and keeps row 26.
   ruleIn-rulesBytes : (rs : List Rule) → rulesWritable B rs ≡ true → (k : ℕ) (d : Rule) → k < length rs → ruleIn (rulesBytes rs) k ≡ getD rs k d
   unfolding rulesBytes
   ruleIn-rulesBytes [] w k d l = absurd (omega arith)

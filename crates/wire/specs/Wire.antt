@@ -1,4 +1,4 @@
--- Little-endian numbers of two and four bytes, and what writing over the start of a list leaves.
+-- Little-endian numbers of two and four bytes, numbers below a bound, and what writing over the start of a list leaves.
 use mathlib.Core.Bool.{Bool, true, _&&_}
 use mathlib.Core.List.{List, [], _∷_, _++_}
 use Prim.Native.Nat.{ℕ, _+_, _*_, _/_, _%_, _<_}
