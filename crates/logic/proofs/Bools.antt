@@ -1,7 +1,7 @@
 -- Laws of Bool that turn a computed test into facts and back, each by its cases.
 use mathlib.Core.Path.{_≡_, refl, sym, _∙_}
 use mathlib.Core.Logic.{_↔_}
-use mathlib.Core.Bool.{Bool, true, false, _&&_, Bool·beq, false≢true, and-eq-true-iff}
+use mathlib.Core.Bool.{Bool, true, false, _&&_, _||_, Bool·beq, false≢true, and-eq-true-iff}
 
 pub &&-split : (a b : Bool) → (a && b) ≡ true → (a ≡ true) × (b ≡ true)
 &&-split a b h = and-eq-true-iff a b .0 h
@@ -32,3 +32,7 @@ beq-sound true true h = refl
 beq-sound true false h = sym h
 beq-sound false true h = h
 beq-sound false false h = refl
+
+pub ||-split : (a b : Bool) → (a || b) ≡ false → (a ≡ false) × (b ≡ false)
+||-split true b h = (h, cc)
+||-split false b h = (refl, h)

@@ -1,29 +1,22 @@
 -- What it is for an image to be accepted, and for a rule to keep its row: each test that fails, or passes, is a fact. Assumes nothing.
 use mathlib.Core.Path.{_≡_, refl, sym, ap, _∙_}
-use mathlib.Core.Bool.{Bool, true, false, not, _||_}
+use mathlib.Core.Bool.{true, false, not}
 use mathlib.Core.List.{List, [], _∷_}
-use Prim.Native.Nat.{ℕ, zero, suc, _+_, _*_, _≤_, _<_}
+use Prim.Native.Nat.{ℕ, zero, suc, _+_, _≤_, _<_}
 use native.Mathlib.Omega.{arith}
-use lib.ListN.{getD, length, drop}
+use lib.ListN.{getD, length}
 use borrow.Author.Tests.{ltb-true, ltb-false, leb-true, eqb-true, not-false, lt-ltb, le-ltb, eq-eqb}
 use Rattle.refusal.specs.Limits.{mostAtoms, mostB, mostRules}
-use Rattle.refusal.specs.Table.{Row, none, numbered}
-use Rattle.refusal.proofs.Table.{none-cons}
+use Rattle.refusal.specs.Table.{none}
+use Rattle.refusal.proofs.Table.{none-at}
 use Rattle.refusal.proofs.First.{firstSuch-none}
 use Rattle.wire.specs.Wire.{u16At, u32At}
-use Rattle.logic.proofs.Bools.{&&-split}
-use Rattle.program.specs.Image.{atomCount, sizeOf, ruleCount, imageLength, ruleSection, usedIn, slotsIn, slotKeeps, slotsKeep, ruleKeeps}
-use Rattle.program.specs.Rows.{outside, row21, row22, row23, row24, row25, row26, programRows}
+use Rattle.logic.proofs.Bools.{&&-split, ||-split}
+use Rattle.program.specs.Image.{atomCount, sizeOf, ruleCount, headerLength, ruleStart, imageLength, ruleSection, usedIn, slotsIn, slotKeeps, slotsKeep, ruleKeeps}
+use Rattle.program.specs.Rows.{outside, row22, row24, row25, row26, programRows}
+pub use Rattle.program.proofs.Rows.{numbered-programRows}
 
 -- ---- the rows
-
-pub numbered-programRows : (p : List ℕ) → numbered (programRows p) ≡ true
-unfolding programRows
-numbered-programRows p = refl
-
-||-split : (a b : Bool) → (a || b) ≡ false → (a ≡ false) × (b ≡ false)
-||-split true b h = (h, cc)
-||-split false b h = (refl, h)
 
 -- A, B and K are inside their limits.
 pub record Inside (A B K : ℕ) : Type 0 where
@@ -41,10 +34,10 @@ outside-false A B K h =
 
 -- An image that no row refuses.
 pub record Accepted (p : List ℕ) : Type 0 where
-  pub long : 16 ≤ length p
+  pub long : headerLength ≤ length p
   pub inside : Inside (atomCount p) (sizeOf p) (ruleCount p)
   pub zeros : u16At p 6 ≡ 0
-  pub offset : u32At p 8 ≡ 16
+  pub offset : u32At p 8 ≡ headerLength
   pub total : u32At p 12 ≡ imageLength (ruleCount p)
   pub exact : length p ≡ imageLength (ruleCount p)
   pub keeps : (k : ℕ) → k < ruleCount p → ruleKeeps (sizeOf p) (ruleSection p) k ≡ true
@@ -52,23 +45,17 @@ pub record Accepted (p : List ℕ) : Type 0 where
 pub none-programRows : (p : List ℕ) → none (programRows p) ≡ true → Accepted p
 unfolding programRows
 none-programRows p h =
-    let behind : ℕ → List Row = λ n. drop n (programRows p) in
-    let r21 = none-cons (row21 p) (behind 1) h in
-    let r22 = none-cons (row22 p) (behind 2) (r21 .1) in
-    let r23 = none-cons (row23 p) (behind 3) (r22 .1) in
-    let r24 = none-cons (row24 p) (behind 4) (r23 .1) in
-    let r25 = none-cons (row25 p) (behind 5) (r24 .1) in
-    let r26 = none-cons (row26 p) (behind 6) (r25 .1) in
-    let fields = ||-split _ _ (r24 .0) in
+    let clear = none-at (programRows p) h in
+    let fields = ||-split _ _ (clear 3) in
     let total = eqb-true _ _ (not-false _ (fields .1)) in
     record {
-      long = ltb-false _ _ (r21 .0);
-      inside = outside-false _ _ _ (r22 .0);
-      zeros = eqb-true _ _ (not-false _ (r23 .0));
+      long = ltb-false _ _ (clear 0);
+      inside = outside-false _ _ _ (clear 1);
+      zeros = eqb-true _ _ (not-false _ (clear 2));
       offset = eqb-true _ _ (not-false _ (fields .0));
       total = total;
-      exact = eqb-true _ _ (not-false _ (r25 .0)) ∙ total;
-      keeps = λ k l. not-false _ (firstSuch-none 26 _ _ .0 (r26 .0) k l);
+      exact = eqb-true _ _ (not-false _ (clear 4)) ∙ total;
+      keeps = λ k l. not-false _ (firstSuch-none 26 _ _ .0 (clear 5) k l);
     }
 
 pub programRows-none : (p : List ℕ) → Accepted p → none (programRows p) ≡ true
@@ -87,7 +74,7 @@ programRows-none p a =
 -- Rule k keeps row 26.
 pub record Kept (B : ℕ) (s : List ℕ) (k : ℕ) : Type 0 where
   pub few : usedIn s k ≤ 3
-  pub zeroByte : getD s (k * 10 + 3) 0 ≡ 0
+  pub zeroByte : getD s (ruleStart k + 3) 0 ≡ 0
   pub used : (i : ℕ) → i < usedIn s k → getD (slotsIn s k) i 0 < B
   pub unused : (i : ℕ) → usedIn s k ≤ i → getD (slotsIn s k) i 0 ≡ 0
 

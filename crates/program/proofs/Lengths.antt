@@ -1,23 +1,23 @@
 -- How long the parts of an image are: a header and a rule have a fixed number of bytes, and a list of rules goes by induction. Assumes nothing.
 use mathlib.Core.Path.{_≡_, refl}
 use mathlib.Core.List.{List, [], _∷_, _++_, append-assoc, append-nil}
-use Prim.Native.Nat.{ℕ, _*_}
+use Prim.Native.Nat.{ℕ}
 use native.Mathlib.Omega.{arith}
 use lib.ListN.{length, length-append}
 use Rattle.program.specs.Rule.{Rule}
 use Rattle.program.specs.Program.{Program}
-use Rattle.program.specs.Image.{imageLength, ruleBytes, rulesBytes, header, imageOf}
+use Rattle.program.specs.Image.{headerLength, ruleLength, ruleStart, imageLength, ruleBytes, rulesBytes, header, imageOf}
 
-pub length-ruleBytes : (r : Rule) → length (ruleBytes r) ≡ 10
+pub length-ruleBytes : (r : Rule) → length (ruleBytes r) ≡ ruleLength
 unfolding ruleBytes
 length-ruleBytes r = refl
 
-pub length-rulesBytes : (rs : List Rule) → length (rulesBytes rs) ≡ length rs * 10
+pub length-rulesBytes : (rs : List Rule) → length (rulesBytes rs) ≡ ruleStart (length rs)
 unfolding rulesBytes
 length-rulesBytes [] = refl
 length-rulesBytes (r ∷ rs) = rw length-append (omega (arith, length-ruleBytes r, length-rulesBytes rs))
 
-pub length-header : (A B K : ℕ) → length (header A B K) ≡ 16
+pub length-header : (A B K : ℕ) → length (header A B K) ≡ headerLength
 unfolding header
 length-header A B K = refl
 

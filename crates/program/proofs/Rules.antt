@@ -31,7 +31,7 @@ module _ (J : Reading) where
   disjs-value [] = refl
   disjs-value (a ∷ l) = rw (disjs-value l)
 
-  pub rule-value : (r : Rule) → trueHere (value J (ruleFormula r)) ≡ holds (valueOf J) r
+  rule-value : (r : Rule) → trueHere (value J (ruleFormula r)) ≡ holds (valueOf J) r
   rule-value r = rw (conjs-value atom (r .positives), conjs-value (λ a. neg (atom a)) (r .negatives), disjs-value (r .heads))
       (implication-true (bodyValue (valueOf J) r) (largest (valueOf J) (r .heads)))
 
@@ -39,7 +39,7 @@ module _ (J : Reading) where
   pub rule-iff : (r : Rule) → (holds (valueOf J) r ≡ true) ↔ (value J (ruleFormula r) ≡ Both)
   rule-iff r = rw (← rule-value r) (trueHere-iff (value J (ruleFormula r)))
 
-  pub rules-value : (rs : List Rule) → satisfies J (map ruleFormula rs) ≡ allHold (valueOf J) rs
+  rules-value : (rs : List Rule) → satisfies J (map ruleFormula rs) ≡ allHold (valueOf J) rs
   rules-value [] = refl
   rules-value (r ∷ rs) = rw (rule-value r, rules-value rs)
 

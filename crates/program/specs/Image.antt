@@ -19,25 +19,37 @@ sizeOf p = u16At p 2
 abbrev pub ruleCount : List ℕ → ℕ
 ruleCount p = u16At p 4
 
--- Rules start at 16, and the image has 16 + 10K bytes.
+-- The header has 16 bytes,
+abbrev pub headerLength : ℕ
+headerLength = 16
+
+-- and a rule 10.
+abbrev pub ruleLength : ℕ
+ruleLength = 10
+
+-- Where rule k starts in the rules' section.
+abbrev pub ruleStart : (k : ℕ) → ℕ
+ruleStart k = k * ruleLength
+
+-- The length of an image of K rules.
 abbrev pub imageLength : (K : ℕ) → ℕ
-imageLength K = 16 + K * 10
+imageLength K = headerLength + ruleStart K
 
 -- The part of the image that starts at the rules' offset.
 abbrev pub ruleSection : List ℕ → List ℕ
-ruleSection p = drop 16 p
+ruleSection p = drop headerLength p
 
 -- Reading.
 
 -- The three counts of rule k of the rules' section: heads, positives, negatives.
 abbrev pub headsIn : List ℕ → ℕ → ℕ
-headsIn s k = getD s (k * 10) 0
+headsIn s k = getD s (ruleStart k) 0
 
 abbrev pub positivesIn : List ℕ → ℕ → ℕ
-positivesIn s k = getD s (k * 10 + 1) 0
+positivesIn s k = getD s (ruleStart k + 1) 0
 
 abbrev pub negativesIn : List ℕ → ℕ → ℕ
-negativesIn s k = getD s (k * 10 + 2) 0
+negativesIn s k = getD s (ruleStart k + 2) 0
 
 -- Its number of literals.
 abbrev pub usedIn : List ℕ → ℕ → ℕ
@@ -45,7 +57,7 @@ usedIn s k = headsIn s k + positivesIn s k + negativesIn s k
 
 -- Its three slots.
 abbrev pub slotsIn : List ℕ → ℕ → List ℕ
-slotsIn s k = u16At s (k * 10 + 4) ∷ u16At s (k * 10 + 6) ∷ u16At s (k * 10 + 8) ∷ []
+slotsIn s k = u16At s (ruleStart k + 4) ∷ u16At s (ruleStart k + 6) ∷ u16At s (ruleStart k + 8) ∷ []
 
 -- A rule of so many heads, positives and negatives, in this order in the slots.
 abbrev pub ruleOf : {S : Type 0} → (heads positives negatives : ℕ) → (slots : List S) → RuleOf S
@@ -67,7 +79,7 @@ slotsKeep B used a b c = slotKeeps B used 0 a && (slotKeeps B used 1 b && slotKe
 abbrev pub ruleKeeps : (B : ℕ) → List ℕ → ℕ → Bool
 ruleKeeps B s k =
     leb (usedIn s k) 3
-    && (eqb (getD s (k * 10 + 3) 0) 0 && slotsKeep B (usedIn s k) (u16At s (k * 10 + 4)) (u16At s (k * 10 + 6)) (u16At s (k * 10 + 8)))
+    && (eqb (getD s (ruleStart k + 3) 0) 0 && slotsKeep B (usedIn s k) (u16At s (ruleStart k + 4)) (u16At s (ruleStart k + 6)) (u16At s (ruleStart k + 8)))
 
 -- The program of an image.
 unfoldable pub programOf : List ℕ → Program
@@ -94,7 +106,7 @@ rulesBytes (r ∷ rs) = ruleBytes r ++ rulesBytes rs
 
 -- The header of an image of K rules.
 unfoldable pub header : (A B K : ℕ) → List ℕ
-header A B K = u16Bytes A ++ (u16Bytes B ++ (u16Bytes K ++ (u16Bytes 0 ++ (u32Bytes 16 ++ u32Bytes (imageLength K)))))
+header A B K = u16Bytes A ++ (u16Bytes B ++ (u16Bytes K ++ (u16Bytes 0 ++ (u32Bytes headerLength ++ u32Bytes (imageLength K)))))
 
 -- The image of a program.
 unfoldable pub imageOf : Program → List ℕ

@@ -8,7 +8,7 @@ use Rattle.refusal.specs.Table.{Row}
 use Rattle.refusal.specs.First.{firstSuch}
 use Rattle.refusal.specs.Limits.{mostAtoms, mostB, mostRules}
 use Rattle.wire.specs.Wire.{u16At, u32At}
-use Rattle.program.specs.Image.{atomCount, sizeOf, ruleCount, imageLength, ruleSection, ruleKeeps}
+use Rattle.program.specs.Image.{atomCount, sizeOf, ruleCount, headerLength, imageLength, ruleSection, ruleKeeps}
 
 -- A, B or K is outside its limits.
 abbrev pub outside : (A B K : ℕ) → Bool
@@ -16,7 +16,7 @@ outside A B K = ltb mostAtoms A || (ltb B A || (ltb mostB B || ltb mostRules K))
 
 -- Row 21: the program is shorter than 16 bytes.
 abbrev pub row21 : List ℕ → Row
-row21 p = record { number = 21; applies = ltb (length p) 16; place = 0 }
+row21 p = record { number = 21; applies = ltb (length p) headerLength; place = 0 }
 
 -- Row 22: A, B or K is outside its limits.
 abbrev pub row22 : List ℕ → Row
@@ -28,7 +28,7 @@ row23 p = record { number = 23; applies = not (eqb (u16At p 6) 0); place = 0 }
 
 -- Row 24: the rule offset or the total length field differs.
 abbrev pub row24 : List ℕ → Row
-row24 p = record { number = 24; applies = not (eqb (u32At p 8) 16) || not (eqb (u32At p 12) (imageLength (ruleCount p))); place = 0 }
+row24 p = record { number = 24; applies = not (eqb (u32At p 8) headerLength) || not (eqb (u32At p 12) (imageLength (ruleCount p))); place = 0 }
 
 -- Row 25: the image's length differs from the total; its place is the length wanted.
 abbrev pub row25 : List ℕ → Row

@@ -2,17 +2,13 @@
 use mathlib.Core.Bool.{Bool, true, not, _&&_}
 use mathlib.Core.List.{List, [], _∷_}
 use Prim.Native.Nat.{ℕ}
-use lib.Dec.{leb, ltb}
+use lib.Dec.{leb}
 use lib.ListN.{length}
+pub use Rattle.wire.specs.Wire.{allBelow}
 use Rattle.program.specs.Rule.{Rule}
 use Rattle.program.specs.Program.{Program}
 use Rattle.program.specs.Image.{literals}
 use Rattle.program.specs.Rows.{outside}
-
--- Each atom of the list is below B.
-abbrev pub allBelow : (B : ℕ) → List ℕ → Bool
-allBelow B [] = true
-allBelow B (a ∷ atoms) = ltb a B && allBelow B atoms
 
 -- A rule has at most three literals, all below B.
 abbrev pub ruleWritable : (B : ℕ) → Rule → Bool

@@ -15,9 +15,22 @@ ghost use Rattle.logic.specs.Value.{negation};
 ghost use Rattle.logic.specs.Formula.{readingOf, valueOf};
 ghost use Rattle.program.specs.Rule.{holds};
 ghost use Rattle.program.specs.Program.{satisfiesProgram};
-ghost use Rattle.program.specs.Image.{sizeOf, usedIn, ruleOf, ruleIn, programOf};
+ghost use Rattle.program.specs.Image.{sizeOf, ruleStart, imageLength, usedIn, ruleOf, ruleIn, programOf};
 ghost use Rattle.program.specs.Image.{slotKeeps, slotsKeep, ruleKeeps, tenBytes, header};
 ghost use Rattle.program.specs.Rows.{outside, programRows};
+
+// The bytes of a header and of a rule, as specs/Image.antt names them.
+const HEADER_LENGTH: usize = 16;
+
+const RULE_LENGTH: usize = 10;
+
+// The length of an image of `rules` rules.
+pub fn image_length(rules: usize) -> usize
+    requires { ⌜ rules < 65536 ⌝ }
+    ensures { λ r. ⌜ r ≡ imageLength rules ⌝ }
+{
+    HEADER_LENGTH + rules * RULE_LENGTH
+}
 
 // The header of an image of `rules` rules.
 pub fn header_bytes(atoms: usize, size: usize, rules: usize) -> [u8; 16]
@@ -27,7 +40,7 @@ pub fn header_bytes(atoms: usize, size: usize, rules: usize) -> [u8; 16]
     let a = wire::u16_bytes(atoms);
     let b = wire::u16_bytes(size);
     let k = wire::u16_bytes(rules);
-    let total = wire::u32_bytes(16 + rules * 10);
+    let total = wire::u32_bytes(image_length(rules));
     [
         a[0],
         a[1],
@@ -74,7 +87,7 @@ pub fn rule_bytes(heads: usize, positives: usize, negatives: usize, slots: [usiz
 pub fn check(program: &[u8]) -> Answer
     ensures { λ r. ⌜ r ≡ answer (programRows (now (program .entry))) 1 ⌝ }
 {
-    if program.len() < 16 {
+    if program.len() < HEADER_LENGTH {
         return refusal::refuse(21, 0);
     }
     let size = wire::u16_at(program, 2);
@@ -86,13 +99,14 @@ pub fn check(program: &[u8]) -> Answer
         return refusal::refuse(23, 0);
     }
     let total = wire::u32_at(program, 12);
-    if wire::u32_at(program, 8) != 16 || total != 16 + count * 10 {
+    let wanted = image_length(count);
+    if wire::u32_at(program, 8) != HEADER_LENGTH || total != wanted {
         return refusal::refuse(24, 0);
     }
     if program.len() != total {
         return refusal::refuse(25, total);
     }
-    let broken = first_broken(&program[16..], count, size);
+    let broken = first_broken_rule(&program[HEADER_LENGTH..], count, size);
     if broken < count {
         return refusal::refuse(26, broken);
     }
@@ -108,8 +122,8 @@ fn is_outside(atoms: usize, size: usize, count: usize) -> bool
 }
 
 // The first rule that row 26 is about, and `count` where there is none.
-fn first_broken(rules: &[u8], count: usize, size: usize) -> usize
-    requires { ⌜ count * 10 ≤ length (now rules) ⌝ }
+fn first_broken_rule(rules: &[u8], count: usize, size: usize) -> usize
+    requires { ⌜ ruleStart count ≤ length (now rules) ⌝ }
     ensures { λ r. ⌜ r ≡ first (λ k. not (ruleKeeps size (now (rules .entry)) k)) count ⌝ }
 {
     let mut place = 0;
@@ -119,15 +133,15 @@ fn first_broken(rules: &[u8], count: usize, size: usize) -> usize
         }
         place += 1;
     }
-    count
+    place
 }
 
 // Whether rule k has at most three literals, all below `size`, and 0 wherever it is to be 0.
 fn keeps(rules: &[u8], k: usize, size: usize) -> bool
-    requires { ⌜ k * 10 + 10 ≤ length (now rules) ⌝ }
+    requires { ⌜ ruleStart (k + 1) ≤ length (now rules) ⌝ }
     ensures { λ r. ⌜ r ≡ ruleKeeps size (now (rules .entry)) k ⌝ }
 {
-    let at = k * 10;
+    let at = k * RULE_LENGTH;
     let used = used_in(rules, k);
     let first = wire::u16_at(rules, at + 4);
     let second = wire::u16_at(rules, at + 6);
@@ -137,10 +151,10 @@ fn keeps(rules: &[u8], k: usize, size: usize) -> bool
 
 // The number of literals of rule k: a sum of three bytes that need not be a byte.
 fn used_in(rules: &[u8], k: usize) -> usize
-    requires { ⌜ k * 10 + 10 ≤ length (now rules) ⌝ }
+    requires { ⌜ ruleStart (k + 1) ≤ length (now rules) ⌝ }
     ensures { λ r. ⌜ r ≡ usedIn (now (rules .entry)) k ⌝ }
 {
-    let at = k * 10;
+    let at = k * RULE_LENGTH;
     wire::wide(rules[at]) + wire::wide(rules[at + 1]) + wire::wide(rules[at + 2])
 }
 
@@ -173,7 +187,7 @@ pub fn satisfied(program: &[u8], reading: &[u8]) -> bool
     ensures { λ r. ⌜ r ≡ satisfiesProgram (readingOf (now (reading .entry))) (programOf (now (program .entry))) ⌝ }
 {
     let count = wire::u16_at(program, 4);
-    let rules = &program[16..];
+    let rules = &program[HEADER_LENGTH..];
     let mut k = 0;
     while k < count {
         if !rule_holds(rules, k, reading) {
@@ -186,10 +200,10 @@ pub fn satisfied(program: &[u8], reading: &[u8]) -> bool
 
 // Whether a reading satisfies rule k.
 fn rule_holds(rules: &[u8], k: usize, reading: &[u8]) -> bool
-    requires { ⌜ (k * 10 + 10 ≤ length (now rules)) × (usedIn (now rules) k ≤ 3) ⌝ }
+    requires { ⌜ (ruleStart (k + 1) ≤ length (now rules)) × (usedIn (now rules) k ≤ 3) ⌝ }
     ensures { λ r. ⌜ r ≡ holds (valueOf (readingOf (now (reading .entry)))) (ruleIn (now (rules .entry)) k) ⌝ }
 {
-    let at = k * 10;
+    let at = k * RULE_LENGTH;
     let heads = wire::wide(rules[at]);
     let positives = wire::wide(rules[at + 1]);
     let negatives = wire::wide(rules[at + 2]);

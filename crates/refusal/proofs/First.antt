@@ -8,9 +8,10 @@ use native.Mathlib.Nat.{eq-or-lt-of-le, le-of-suc-le-suc, not-suc-le-zero}
 use native.Mathlib.Omega.{arith}
 use lib.Dec.{ltb}
 use borrow.Author.Tests.{lt-ltb, le-ltb, ltb-true, ltb-false}
+use Rattle.refusal.specs.declared.Answer.{Answer}
 use Rattle.refusal.specs.Table.{Row, refused, answer}
 use Rattle.refusal.specs.First.{first, firstSuch, FirstAt}
-use Rattle.refusal.proofs.Table.{cases}
+use Rattle.refusal.proofs.Table.{cases, Reached, reached-next, reached-refused}
 
 -- it is at most the bound
 pub first-le : (test : ℕ → Bool) (n : ℕ) → first test n ≤ n
@@ -27,39 +28,31 @@ first-before test (suc n) (suc k) h =
     cases (test 0) (λ t. absurd (not-suc-le-zero (rw t at h))) (λ t. first-before (λ j. test (suc j)) n k (le-of-suc-le-suc (rw t at h)))
 
 -- at it the test holds, if it is below the bound
-pub first-at : (test : ℕ → Bool) (n : ℕ) → first test n < n → test (first test n) ≡ true
+first-at : (test : ℕ → Bool) (n : ℕ) → first test n < n → test (first test n) ≡ true
 unfolding first
 first-at test zero h = absurd (not-suc-le-zero h)
 first-at test (suc n) h = cases (test 0) (λ t. rw t t) (λ t. rw t (first-at (λ k. test (suc k)) n (le-of-suc-le-suc (rw t at h))))
 
-module _ (test : ℕ → Bool) (n k : ℕ) (reached : k ≤ first test n) where
-  -- a loop that reached k and finds the test there stops at the first such number
-  pub first-here : test k ≡ true → first test n ≡ k
-  first-here t = ⊎-elim (λ e. sym e) (λ l. absurd (true≢false (sym t ∙ first-before test n k l))) (eq-or-lt-of-le reached)
+module _ (test : ℕ → Bool) (n k : ℕ) (not-passed : k ≤ first test n) where
+  -- a loop that tries 0, 1, .. and has come to k: where it finds the test, that is the first such number,
+  pub first-here : test k ≡ true → k ≡ first test n
+  first-here t = ⊎-elim (λ e. e) (λ l. absurd (true≢false (sym t ∙ first-before test n k l))) (eq-or-lt-of-le not-passed)
 
-  -- a loop that reached k and does not find the test there goes on
+  -- where it does not, it goes on,
   pub first-on : k < n → test k ≡ false → k + 1 ≤ first test n
-  first-on h t = ⊎-elim (λ e. absurd (true≢false (sym (first-at test n (rw (← e) h)) ∙ rw (← e) t))) (λ l. omega arith) (eq-or-lt-of-le reached)
+  first-on h t = ⊎-elim (λ e. absurd (true≢false (sym (first-at test n (rw (← e) h)) ∙ rw (← e) t))) (λ l. omega arith) (eq-or-lt-of-le not-passed)
 
-  -- a loop that reached the bound found the test nowhere
-  pub first-end : n ≤ k → first test n ≡ n
+  -- and at the bound there is none
+  pub first-end : n ≤ k → k ≡ first test n
   first-end h = omega (arith, first-le test n)
 
--- the row of the first such number: at the number it refuses with that place, and at the bound it leaves the answer to the rows behind
-module _ (number : ℕ) (test : ℕ → Bool) (n k : ℕ) (reached : k ≤ first test n) (rows : List Row) (x : ℕ) where
-  pub firstSuch-here : k < n → test k ≡ true → answer (firstSuch number test n ∷ rows) x ≡ refused number k
-  firstSuch-here h t = rw (first-here test n k reached t, lt-ltb k n h)
+-- the row of the first such number, where a scan has found k: below the bound it refuses with that place, and at the bound it is past
+module _ (number : ℕ) (test : ℕ → Bool) (n k : ℕ) (found : k ≡ first test n) {rows rest : List Row} {x : ℕ} (at : Reached rows x (firstSuch number test n ∷ rest)) where
+  pub firstSuch-refused : k < n → {a : Answer} → a ≡ refused number k → a ≡ answer rows x
+  firstSuch-refused h e = reached-refused at (rw (← found) (lt-ltb k n h)) (rw (← found) e)
 
-  pub firstSuch-end : n ≤ k → answer (firstSuch number test n ∷ rows) x ≡ answer rows x
-  firstSuch-end h = rw (first-end test n k reached h, le-ltb n n (omega arith))
-
--- a scan that gave the first such number: below the bound its row refuses with that place, and at the bound the rows behind decide
-module _ (number : ℕ) (test : ℕ → Bool) (n k : ℕ) (found : k ≡ first test n) (rows : List Row) (x : ℕ) where
-  pub firstSuch-refused : k < n → answer (firstSuch number test n ∷ rows) x ≡ refused number k
-  firstSuch-refused h = rw (← found, lt-ltb k n h)
-
-  pub firstSuch-past : n ≤ k → answer (firstSuch number test n ∷ rows) x ≡ answer rows x
-  firstSuch-past h = rw (← found, le-ltb k n h)
+  pub firstSuch-next : n ≤ k → Reached rows x rest
+  firstSuch-next h = reached-next at (rw (← found) (le-ltb k n h))
 
 -- that row does not apply exactly if the test fails at every number below the bound
 pub firstSuch-none : (number : ℕ) (test : ℕ → Bool) (n : ℕ) → (firstSuch number test n .applies ≡ false) ↔ ((k : ℕ) → k < n → test k ≡ false)

@@ -1,7 +1,7 @@
 -- Laws of the rows about a call's arguments, each from the definition of its row. Assumes nothing.
 use mathlib.Core.Path.{_≡_, refl}
 use mathlib.Core.Bool.{Bool, true, false, cond}
-use mathlib.Core.List.{List, [], _∷_}
+use mathlib.Core.List.{List}
 use Prim.Native.Nat.{ℕ, suc, _+_, _<_}
 use native.Mathlib.Numerals.{add-one}
 use lib.Dec.{eqb}
@@ -9,8 +9,8 @@ use lib.ListN.{length, getD, drop}
 use lib.Seq.{drop-cons}
 use borrow.Author.Tests.{not-false, eqb-true}
 use Rattle.refusal.specs.Table.{none, numbered}
-use Rattle.refusal.specs.Rows.{countTrue, wrong, row9, row10, argumentRows}
-use Rattle.refusal.proofs.Table.{none-cons}
+use Rattle.refusal.specs.Rows.{countTrue, wrong, argumentRows}
+use Rattle.refusal.proofs.Table.{none-at}
 use Rattle.refusal.proofs.First.{firstSuch-none}
 
 -- the bytes 2 from an index on are those behind it, and one more where that byte is 2
@@ -29,5 +29,5 @@ pub none-argumentRows : (candidate : Bool) (count : ℕ) (bytes : List ℕ) → 
     → (length bytes ≡ count) × ((i : ℕ) → i < length bytes → wrong candidate (getD bytes i 0) ≡ false)
 unfolding argumentRows
 none-argumentRows candidate count bytes h =
-    let t = none-cons (row9 count bytes) (row10 candidate bytes ∷ []) h in
-    (eqb-true _ _ (not-false _ (t .0)), firstSuch-none 10 _ _ .0 (none-cons (row10 candidate bytes) [] (t .1) .0))
+    let clear = none-at (argumentRows candidate count bytes) h in
+    (eqb-true _ _ (not-false _ (clear 0)), firstSuch-none 10 _ _ .0 (clear 1))

@@ -2,8 +2,9 @@
 use mathlib.Core.Path.{_≡_, refl, sym, ap, _∙_}
 use mathlib.Core.Bool.{Bool, true, false, not, _&&_, and-eq-true-iff}
 use mathlib.Core.List.{List, [], _∷_, _++_, append-nil}
-use Prim.Native.Nat.{ℕ}
+use Prim.Native.Nat.{ℕ, zero, suc}
 use lib.Dec.{eqb}
+use lib.ListN.{getD}
 use borrow.Author.Tests.{not-true, eqb-false}
 use Rattle.refusal.specs.declared.Answer.{Answer}
 use Rattle.refusal.specs.Table.{Row, refused, accepted, yes, answer, none, unused, numbered, Exact}
@@ -20,6 +21,12 @@ clear a b h = let t = and-eq-true-iff (not a) b .0 h in (not-true a (t .0), t .1
 -- where no row applies, the first does not, and none behind it does
 pub none-cons : (r : Row) (rs : List Row) → none (r ∷ rs) ≡ true → (r .applies ≡ false) × (none rs ≡ true)
 none-cons r rs = clear (r .applies) (none rs)
+
+-- and the one at each index does not
+pub none-at : (rs : List Row) → none rs ≡ true → (i : ℕ) → getD rs i (record { number = 0; applies = false; place = 0 }) .applies ≡ false
+none-at [] h i = refl
+none-at (r ∷ rs) h zero = none-cons r rs h .0
+none-at (r ∷ rs) h (suc i) = none-at rs (none-cons r rs h .1) i
 
 -- a number that no row has is not the first row's, and none behind has it
 unused-cons : (n : ℕ) (r : Row) (rs : List Row) → unused n (r ∷ rs) ≡ true → (n ≡ r .number → ⊥) × (unused n rs ≡ true)
@@ -45,6 +52,31 @@ answer-none rs x h = rw append-nil at (answer-past rs [] x h)
 pub answer-at : (before : List Row) (r : Row) (after : List Row) (x : ℕ) → none before ≡ true → r .applies ≡ true
     → answer (before ++ r ∷ after) x ≡ refused (r .number) (r .place)
 answer-at before r after x h t = answer-past before (r ∷ after) x h ∙ rw t
+
+-- A walk along the rows that has come to `rest`: the rows before leave the answer to these.
+pub record Reached (rows : List Row) (x : ℕ) (rest : List Row) : Type 0 where
+  pub same : answer rows x ≡ answer rest x
+
+-- it begins at the first
+pub reached-first : (rows : List Row) (x : ℕ) → Reached rows x rows
+reached-first rows x = record { same = refl }
+
+module _ {rows rest : List Row} {x : ℕ} {r : Row} (at : Reached rows x (r ∷ rest)) where
+  -- a row that does not apply leaves the answer to those behind it,
+  pub reached-next : r .applies ≡ false → Reached rows x rest
+  reached-next h = record { same = at .same ∙ rw h }
+
+  -- and one that applies refuses
+  pub reached-refused : r .applies ≡ true → {a : Answer} → a ≡ refused (r .number) (r .place) → a ≡ answer rows x
+  reached-refused h e = e ∙ sym (at .same ∙ rw h)
+
+-- it passes rows of which none applies
+pub reached-past : (rs qs : List Row) (x : ℕ) → none rs ≡ true → Reached (rs ++ qs) x qs
+reached-past rs qs x n = record { same = answer-past rs qs x n }
+
+-- behind the last, the result is accepted
+pub reached-accepted : {rows : List Row} {x : ℕ} → Reached rows x [] → {a : Answer} → a ≡ accepted x → a ≡ answer rows x
+reached-accepted at e = e ∙ sym (at .same)
 
 -- a refusal by the first rows stands, whatever rows are behind
 pub answer-refused : (rs qs : List Row) (x y : ℕ) {a : Answer} → a ≡ answer rs x → (a .number ≡ 0 → ⊥) → a ≡ answer (rs ++ qs) y
@@ -86,10 +118,6 @@ none-accepted [] x h e z = refl
 none-accepted (r ∷ rs) x h e z =
     let own = numbered-cons r rs h in
     cases (r .applies) (λ t. absurd (own .0 (sym z ∙ ap (λ (b : Answer). b .number) (rw t at e)))) (λ t. rw t (none-accepted rs x (own .2) (rw t at e) z))
-
--- and the rows behind decide
-pub answer-accepted : (rs qs : List Row) (x y : ℕ) → numbered rs ≡ true → {a : Answer} → a ≡ answer rs x → a .number ≡ 0 → answer (rs ++ qs) y ≡ answer qs y
-answer-accepted rs qs x y h e z = answer-past rs qs y (none-accepted rs x h e z)
 
 -- a question that is answered yes is not refused, and its answer is yes
 pub answer-yes : (rs : List Row) (b : Bool) → numbered rs ≡ true → answer rs (yes b) ≡ accepted 1 → (none rs ≡ true) × (b ≡ true)

@@ -1,4 +1,4 @@
-// The answer of every public call, and the refusals that are about a call's arguments and not about an image.
+//! The answer of every public call, and the refusals that are about a call's arguments and not about an image.
 ghost use mathlib.Core.Path.{_≡_};
 ghost use Rattle.refusal.specs.Table.{refused, accepted, answer};
 ghost use Rattle.refusal.specs.Rows.{wrong, argumentRows, readingRows, candidateRows, countTrue};

@@ -1,7 +1,7 @@
 -- What an image that no row refuses is like: each row that does not apply gives its fact, and together they make the book well formed.
-use mathlib.Core.Path.{_≡_, refl}
-use mathlib.Core.Bool.{Bool, true, false, _&&_, _||_, true≢false}
-use mathlib.Core.List.{List, [], _∷_, _++_}
+use mathlib.Core.Path.{_≡_}
+use mathlib.Core.Bool.{true}
+use mathlib.Core.List.{List, [], _∷_}
 use Prim.Native.Nat.{ℕ, _+_, _*_, _≤_, _<_}
 use native.Mathlib.Nat.{zero-add}
 use native.Mathlib.Omega.{arith}
@@ -9,16 +9,17 @@ use lib.Dec.{ltb, eqb}
 use lib.ListN.{length, getD}
 use borrow.Author.Tests.{ltb-true, ltb-false, eqb-true, not-false}
 use Rattle.refusal.specs.Limits.{mostAtoms, mostNodes, mostRoots}
-use Rattle.refusal.specs.Table.{Row, none}
-use Rattle.refusal.proofs.Table.{none-cons, none-split}
+use Rattle.refusal.specs.Table.{none}
+use Rattle.refusal.proofs.Table.{none-at, none-split}
 use Rattle.refusal.proofs.First.{firstSuch-none}
-use Rattle.logic.proofs.Bools.{&&-split}
+use Rattle.logic.proofs.Bools.{&&-split, ||-split}
 use Rattle.wire.specs.Sequence.{upTo}
+use Rattle.wire.proofs.Laws.{allBelow-each}
 use Rattle.wire.proofs.Sequence.{length-upTo, getD-upTo}
 use Rattle.theory.specs.Book.{Node, WellFormed, fits}
 use Rattle.theory.specs.Image.{atomCount, nodeCount, rootCount, imageLength, nodeSection, rootSection, nodeIn, nodeKeeps, rootIn, bookOf}
-use Rattle.theory.specs.Rows.{row1, row2, row3, row4, row5, row6, row7, headerRows, theoryRows}
-use Rattle.theory.proofs.Books.{allFit-each, allBelow-each}
+use Rattle.theory.specs.Rows.{row6, row7, headerRows, theoryRows}
+use Rattle.theory.proofs.Books.{allFit-each}
 
 -- What rows 1 to 5 leave.
 pub record Header (t : List ℕ) : Type 0 where
@@ -34,44 +35,33 @@ pub record Accepted (t : List ℕ) : Type 0 where
   pub nodes-keep : (k : ℕ) → k < nodeCount t → nodeKeeps (atomCount t) (nodeSection t) k ≡ true
   pub roots-below : (i : ℕ) → i < rootCount t → rootIn (rootSection t) i < nodeCount t
 
-either : (a b : Bool) → (a || b) ≡ false → (a ≡ false) × (b ≡ false)
-either true b h = absurd (true≢false h)
-either false b h = (refl, h)
-
 -- A node that keeps to its row fits.
 pub keeps-fits : (A : ℕ) (s : List ℕ) (k : ℕ) → nodeKeeps A s k ≡ true → fits A k (nodeIn s k) ≡ true
-keeps-fits A s k h =
-    let rest : Bool = eqb (getD s (k * 6 + 1) 0) 0 && fits A k (nodeIn s k) in
-    &&-split (eqb (getD s (k * 6 + 1) 0) 0) (fits A k (nodeIn s k)) (&&-split (ltb (getD s (k * 6) 0) 7) rest h .1) .1
+keeps-fits A s k h = &&-split (eqb (getD s (k * 6 + 1) 0) 0) _ (&&-split (ltb (getD s (k * 6) 0) 7) _ h .1) .1
 
 pub header-accepted : (t : List ℕ) → none (headerRows t) ≡ true → Header t
 unfolding headerRows
 header-accepted t h =
-    let from1 = none-cons (row1 t) (row2 t ∷ row3 t ∷ row4 t ∷ row5 t ∷ []) h in
-    let from2 = none-cons (row2 t) (row3 t ∷ row4 t ∷ row5 t ∷ []) (from1 .1) in
-    let from3 = none-cons (row3 t) (row4 t ∷ row5 t ∷ []) (from2 .1) in
-    let from4 = none-cons (row4 t) (row5 t ∷ []) (from3 .1) in
-    let from5 = none-cons (row5 t) [] (from4 .1) in
-    let limits = either (ltb mostAtoms (atomCount t)) (ltb mostNodes (nodeCount t) || ltb mostRoots (rootCount t)) (from2 .0) in
-    let others = either (ltb mostNodes (nodeCount t)) (ltb mostRoots (rootCount t)) (limits .1) in
+    let clear = none-at (headerRows t) h in
+    let limits = ||-split _ _ (clear 1) in
+    let others = ||-split _ _ (limits .1) in
     record {
-      long = ltb-false _ _ (from1 .0);
+      long = ltb-false _ _ (clear 0);
       few-atoms = ltb-false _ _ (limits .0);
       few-nodes = ltb-false _ _ (others .0);
       few-roots = ltb-false _ _ (others .1);
-      whole = eqb-true _ _ (not-false _ (from5 .0));
+      whole = eqb-true _ _ (not-false _ (clear 4));
     }
 
 pub accepted : (t : List ℕ) → none (theoryRows t) ≡ true → Accepted t
 unfolding theoryRows
 accepted t h =
     let parts = none-split (headerRows t) (row6 t ∷ row7 t ∷ []) h in
-    let from6 = none-cons (row6 t) (row7 t ∷ []) (parts .1) in
-    let from7 = none-cons (row7 t) [] (from6 .1) in
+    let clear = none-at (row6 t ∷ row7 t ∷ []) (parts .1) in
     record {
       header = header-accepted t (parts .0);
-      nodes-keep = λ k l. not-false _ (firstSuch-none 6 _ _ .0 (from6 .0) k l);
-      roots-below = λ i l. ltb-true _ _ (not-false _ (firstSuch-none 7 _ _ .0 (from7 .0) i l));
+      nodes-keep = λ k l. not-false _ (firstSuch-none 6 _ _ .0 (clear 0) k l);
+      roots-below = λ i l. ltb-true _ _ (not-false _ (firstSuch-none 7 _ _ .0 (clear 1) i l));
     }
 
 pub accepted-wellFormed : (t : List ℕ) → none (theoryRows t) ≡ true → WellFormed (bookOf t)

@@ -5,7 +5,8 @@ use mathlib.Core.Bool.{Bool, true, _&&_}
 use mathlib.Core.List.{List, [], _∷_, map, List·Memᴰ, List·Memᴰ·cases-cons, List·Memᴰ·not-nil}
 use lib.ListN.{length}
 use Rattle.logic.proofs.Bools.{&&-split}
-use Rattle.theory.specs.Book.{allFit, allBelow, WellFormed}
+use Rattle.wire.specs.Wire.{allBelow}
+use Rattle.theory.specs.Book.{allFit, WellFormed}
 use Rattle.theory.specs.BenchCases.{BenchCase, benchCases, setsOf}
 
 -- The one claim over the one table.

@@ -6,14 +6,14 @@ use Prim.Native.Nat.{ℕ, zero, suc, _+_, _<_}
 use native.Mathlib.Nat.{add-zero}
 use native.Mathlib.Omega.{arith}
 use lib.Dec.{ltb}
-use lib.ListN.{length, getD, take, drop, length-append, List·getD-append}
+use lib.ListN.{length, take, drop, length-append, List·getD-append}
 use lib.Seq.{getD-append-seam}
-use borrow.Author.Tests.{lt-ltb, ltb-true}
+use borrow.Author.Tests.{ltb-true}
 use Rattle.logic.specs.Formula.{Formula, falsum}
 use Rattle.logic.proofs.Bools.{&&-split, &&-join}
 use Rattle.wire.specs.Sequence.{upTo}
 use Rattle.wire.proofs.Sequence.{upTo-more}
-use Rattle.theory.specs.Book.{Node, nodeAt, leftLimit, rightLimit, fits, allFit, allBelow, formulaAt, formula, formulas}
+use Rattle.theory.specs.Book.{Node, nodeAt, leftLimit, rightLimit, fits, allFit, formulaAt, formula, formulas}
 
 -- Left and right of a node that fits are below their limits.
 pub fits-left : (A k : ℕ) (n : Node) → fits A k n ≡ true → n .left < leftLimit A k (n .kind)
@@ -35,11 +35,6 @@ pub allFit-each : (A i : ℕ) (ns : List Node) → ((k : ℕ) → k < length ns 
 allFit-each A i [] h = refl
 allFit-each A i (n ∷ ns) h =
     &&-join (rw add-zero at (h 0 (omega arith))) (allFit-each A (suc i) ns (λ k l. let e : suc i + k ≡ i + suc k = omega arith in rw e (h (suc k) (omega arith))))
-
--- Numbers are all below n where each is.
-pub allBelow-each : (n : ℕ) (ks : List ℕ) → ((i : ℕ) → i < length ks → getD ks i 0 < n) → allBelow n ks ≡ true
-allBelow-each n [] h = refl
-allBelow-each n (k ∷ ks) h = &&-join (lt-ltb k n (h 0 (omega arith))) (allBelow-each n ks (λ i l. h (suc i) (omega arith)))
 
 pub length-formulas : (fs : List Formula) (ns : List Node) → length (formulas fs ns) ≡ length fs + length ns
 length-formulas fs [] = sym (add-zero (length fs))
@@ -69,7 +64,7 @@ formulas-at fs (n ∷ ns) (suc k) h =
     rw e at (formulas-at fs′ ns k (omega arith))
 
 -- One node more has one formula more, made of those before it.
-pub formulas-snoc : (fs : List Formula) (ns : List Node) (n : Node) → formulas fs (ns ++ (n ∷ [])) ≡ formulas fs ns ++ (formula (formulas fs ns) n ∷ [])
+formulas-snoc : (fs : List Formula) (ns : List Node) (n : Node) → formulas fs (ns ++ (n ∷ [])) ≡ formulas fs ns ++ (formula (formulas fs ns) n ∷ [])
 formulas-snoc fs [] n = refl
 formulas-snoc fs (m ∷ ns) n = formulas-snoc (fs ++ (formula fs m ∷ [])) ns n
 

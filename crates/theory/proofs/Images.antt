@@ -1,4 +1,4 @@
--- Laws of the theory image: what its numbers are, and what an image that no row refuses is like. Each from the definition of its row.
+-- Laws of a node's first byte: its kind, and what the limits of left and right are by it. By cases on the byte.
 use mathlib.Core.Path.{_≡_, refl}
 use mathlib.Core.Bool.{false, cond}
 use Prim.Native.Nat.{ℕ, zero, suc, _<_}

@@ -1,24 +1,24 @@
 -- Laws of the nodes' values: a node's value is made of those before it, as its formula is made of their formulas. By cases on the kind.
-use mathlib.Core.Path.{_≡_, refl, sym, ap, ap₂, _∙_}
+use mathlib.Core.Path.{_≡_, refl, ap, ap₂, _∙_}
 use mathlib.Core.List.{List, [], _∷_, _++_, map, map-append}
-use Prim.Native.Nat.{ℕ, suc, _+_, _<_}
+use Prim.Native.Nat.{ℕ, _+_, _<_}
 use native.Mathlib.Nat.{zero-add}
-use native.Mathlib.Numerals.{add-one}
-use lib.ListN.{length, take, drop, set, length-append, length-map, List·getD-map}
-use lib.Seq.{drop-cons, set-at, take-at, append-snoc}
+use lib.ListN.{length, take, set, length-map, List·getD-map}
+use lib.Seq.{take-at}
 use Rattle.logic.specs.declared.Value.{Value}
 use Rattle.logic.specs.Value.{number}
 use Rattle.logic.specs.Formula.{Formula, falsum, Reading, readingOf, value, valueOf}
 use Rattle.logic.proofs.Values.{ofByte-number}
 use Rattle.wire.specs.Wire.{over}
 use Rattle.wire.specs.Sequence.{upTo}
+use Rattle.wire.proofs.Laws.{over-store}
 use Rattle.wire.proofs.Sequence.{upTo-none, length-upTo}
 use Rattle.theory.specs.Book.{Kind, falseKind, trueKind, atomKind, notKind, andKind, orKind, impliesKind, Node, say, formula, formulas}
 use Rattle.theory.specs.Image.{nodeCount, nodeSection, nodeIn, bookOf}
 use Rattle.theory.specs.NodeValues.{worth, valueFrom, valuesTo, nodeValues}
 use Rattle.theory.proofs.Books.{length-formulas, formulas-upTo}
 
-pub value-say : (I : Reading) (k : Kind) (a : ℕ) (f g : Formula) → value I (say k a f g) ≡ worth k (valueOf I a) (value I f) (value I g)
+value-say : (I : Reading) (k : Kind) (a : ℕ) (f g : Formula) → value I (say k a f g) ≡ worth k (valueOf I a) (value I f) (value I g)
 value-say I falseKind a f g = refl
 value-say I trueKind a f g = refl
 value-say I atomKind a f g = refl
@@ -31,14 +31,6 @@ pub value-formula : (I : Reading) (fs : List Formula) (n : Node) → value I (fo
 value-formula I fs n =
     rw (List·getD-map (value I) fs (n .left) falsum, List·getD-map (value I) fs (n .right) falsum) (value-say I (n .kind) (n .left) _ _)
 
--- One node more has one value more.
-pub values-upTo : (I : Reading) (fs : List Formula) (f : ℕ → Node) (k : ℕ) →
-    let vs : List Value = map (value I) (formulas fs (upTo f k)) in
-    map (value I) (formulas fs (upTo f (k + 1))) ≡ vs ++ (valueFrom I vs (f k) ∷ [])
-values-upTo I fs f k =
-    let fs′ : List Formula = formulas fs (upTo f k) in
-    rw (formulas-upTo, map-append) (ap (λ v. map (value I) fs′ ++ (v ∷ [])) (value-formula I fs′ (f k)))
-
 -- The values of the first nodes: as many as nodes, and one more from those before.
 pub length-valuesTo : (I : Reading) (s : List ℕ) (k : ℕ) → length (valuesTo I s k) ≡ k
 length-valuesTo I s k = length-map (formulas [] (upTo (nodeIn s) k)) (value I) ∙ length-formulas [] (upTo (nodeIn s) k) ∙ zero-add _ ∙ length-upTo (nodeIn s) k
@@ -47,17 +39,14 @@ pub valuesTo-none : (I : Reading) (s : List ℕ) → valuesTo I s 0 ≡ []
 valuesTo-none I s = rw upTo-none
 
 pub valuesTo-more : (I : Reading) (s : List ℕ) (k : ℕ) → valuesTo I s (k + 1) ≡ valuesTo I s k ++ (valueFrom I (valuesTo I s k) (nodeIn s k) ∷ [])
-valuesTo-more I s k = values-upTo I [] (nodeIn s) k
+valuesTo-more I s k =
+    let fs : List Formula = formulas [] (upTo (nodeIn s) k) in
+    rw (formulas-upTo, map-append) (ap (λ v. map (value I) fs ++ (v ∷ [])) (value-formula I fs (nodeIn s k)))
 
 -- The bytes of values stand for those values.
 pub readingOf-number : (vs : List Value) → readingOf (map number vs) ≡ vs
 readingOf-number [] = refl
 readingOf-number (v ∷ vs) = ap₂ _∷_ (ofByte-number v) (readingOf-number vs)
-
--- One byte more, stored behind those written.
-over-store : (new old : List ℕ) (k byte : ℕ) → length new ≡ k → k < length old → set (over new old) k byte ≡ over (new ++ (byte ∷ [])) old
-over-store new old k byte e h =
-    rw (length-append, e, add-one, drop-cons old k 0 h, set-at new _ _ byte k e) (sym (append-snoc new byte (drop (suc k) old)))
 
 -- What a writer of values has written so far, as it reads it back and after one store more.
 module _ (I : Reading) (s old : List ℕ) (k : ℕ) where

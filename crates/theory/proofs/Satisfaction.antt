@@ -27,13 +27,13 @@ use Rattle.theory.proofs.Books.{length-formulas}
 use Rattle.theory.proofs.Accepted.{Accepted}
 
 -- The byte 2 is that of the value that is true here.
-pub eqb-number : (v : Value) → eqb (number v) 2 ≡ trueHere v
+eqb-number : (v : Value) → eqb (number v) 2 ≡ trueHere v
 eqb-number Neither = refl
 eqb-number There = refl
 eqb-number Both = refl
 
 -- A list is satisfied exactly if each of its formulas is true here.
-pub satisfies-upTo : (I : Reading) (f : ℕ → Formula) (n : ℕ) → (satisfies I (upTo f n) ≡ true) ↔ ((i : ℕ) → i < n → trueHere (value I (f i)) ≡ true)
+satisfies-upTo : (I : Reading) (f : ℕ → Formula) (n : ℕ) → (satisfies I (upTo f n) ≡ true) ↔ ((i : ℕ) → i < n → trueHere (value I (f i)) ≡ true)
 unfolding upTo
 satisfies-upTo I f zero = (λ h i l. absurd (omega arith), λ h. refl)
 satisfies-upTo I f (suc n) =
@@ -49,7 +49,7 @@ satisfies-upTo I f (suc n) =
     )
 
 -- So a scan for the first that is not says whether it is satisfied.
-pub satisfies-first : (I : Reading) (f : ℕ → Formula) (test : ℕ → Bool) (n : ℕ) → ((i : ℕ) → i < n → test i ≡ not (trueHere (value I (f i))))
+satisfies-first : (I : Reading) (f : ℕ → Formula) (test : ℕ → Bool) (n : ℕ) → ((i : ℕ) → i < n → test i ≡ not (trueHere (value I (f i))))
     → eqb (first test n) n ≡ satisfies I (upTo f n)
 satisfies-first I f test n same = iff-equal _ _ (
   λ h. let e = eqb-true (first test n) n h in
@@ -59,7 +59,7 @@ satisfies-first I f test n same = iff-equal _ _ (
 )
 
 -- The byte of a node, among the bytes written, is the value of its formula.
-pub number-at : (I : Reading) (fs : List Formula) (old : List ℕ) (k : ℕ) → k < length fs
+number-at : (I : Reading) (fs : List Formula) (old : List ℕ) (k : ℕ) → k < length fs
     → getD (over (map number (map (value I) fs)) old) k 0 ≡ number (value I (formulaAt fs k))
 number-at I fs old k h =
     let vs : List Value = map (value I) fs in

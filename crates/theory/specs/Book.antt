@@ -5,6 +5,7 @@ use mathlib.Core.List.{List, [], _∷_, _++_, map}
 use Prim.Native.Nat.{ℕ, suc}
 use lib.Dec.{ltb}
 use lib.ListN.{getD, length}
+use Rattle.wire.specs.Wire.{allBelow}
 use Rattle.logic.specs.Formula.{Formula, falsum, verum, atom, neg, conj, disj, impl}
 
 -- The kinds of node, 0 to 6.
@@ -55,11 +56,6 @@ fits A k n = ltb (n .left) (leftLimit A k (n .kind)) && ltb (n .right) (rightLim
 abbrev pub allFit : (A k : ℕ) → List Node → Bool
 allFit A k [] = true
 allFit A k (n ∷ ns) = fits A k n && allFit A (suc k) ns
-
--- Every number of the list is below n.
-abbrev pub allBelow : ℕ → List ℕ → Bool
-allBelow n [] = true
-allBelow n (k ∷ ks) = ltb k n && allBelow n ks
 
 -- A book whose nodes keep to their rows and whose roots are nodes.
 pub record WellFormed (b : Book) : Type 0 where

@@ -14,7 +14,7 @@ ghost use Rattle.logic.specs.Value.{number};
 ghost use Rattle.logic.specs.Formula.{readingOf, valueOf, satisfies};
 ghost use Rattle.wire.specs.Wire.{u32At, over};
 ghost use Rattle.theory.specs.Book.{leftLimit, rightLimit, fits, bookFormulas};
-ghost use Rattle.theory.specs.Image.{atomCount, nodeCount, rootCount, kindOf, nodeIn, nodeKeeps, rootIn, bookOf};
+ghost use Rattle.theory.specs.Image.{atomCount, nodeCount, rootCount, rootsStart, kindOf, nodeIn, nodeKeeps, rootIn, bookOf};
 ghost use Rattle.theory.specs.Rows.{headerRows, theoryRows};
 ghost use Rattle.theory.specs.NodeValues.{valueFrom, valuesTo, nodeValues};
 
@@ -42,6 +42,14 @@ pub fn roots(theory: &[u8]) -> usize
     wire::u16_at(theory, 4)
 }
 
+// Where the roots start.
+pub fn roots_start(theory: &[u8]) -> usize
+    requires { ⌜ 16 ≤ length (now theory) ⌝ }
+    ensures { λ r. ⌜ (r ≡ rootsStart (nodeCount (now (theory .entry)))) × (r < rootsStart 65536) ⌝ }
+{
+    16 + nodes(theory) * 6
+}
+
 // Whether A, N or R is over its limit.
 fn over_limits(atoms: usize, nodes: usize, roots: usize) -> bool
     ensures { λ r. ⌜ r ≡ (ltb mostAtoms atoms || (ltb mostNodes nodes || ltb mostRoots roots)) ⌝ }
@@ -67,15 +75,14 @@ fn header(theory: &[u8]) -> Answer
     if theory.len() < 16 {
         return refusal::refuse(1, 0);
     }
-    let node_count = nodes(theory);
     let root_count = roots(theory);
-    if over_limits(atoms(theory), node_count, root_count) {
+    if over_limits(atoms(theory), nodes(theory), root_count) {
         return refusal::refuse(2, 0);
     }
     if wire::u16_at(theory, 6) != 0 {
         return refusal::refuse(3, 0);
     }
-    let start = 16 + node_count * 6;
+    let start = roots_start(theory);
     if offsets_differ(theory, start) {
         return refusal::refuse(4, 0);
     }
@@ -127,7 +134,7 @@ fn keeps(nodes: &[u8], k: usize, atoms: usize) -> bool
 }
 
 // The first node that does not keep to its row, and the count where each does.
-fn first_bad_node(nodes: &[u8], atoms: usize, count: usize) -> usize
+fn first_broken_node(nodes: &[u8], atoms: usize, count: usize) -> usize
     requires { ⌜ count * 6 ≤ length (now nodes) ⌝ }
     ensures { λ r. ⌜ r ≡ first (λ k. not (nodeKeeps atoms (now (nodes .entry)) k)) count ⌝ }
 {
@@ -138,11 +145,11 @@ fn first_bad_node(nodes: &[u8], atoms: usize, count: usize) -> usize
         }
         k += 1;
     }
-    count
+    k
 }
 
 // The index of the first root that is not below the number of nodes, and the count where each is.
-fn first_bad_root(roots: &[u8], nodes: usize, count: usize) -> usize
+fn first_root_not_below(roots: &[u8], nodes: usize, count: usize) -> usize
     requires { ⌜ count * 2 ≤ length (now roots) ⌝ }
     ensures { λ r. ⌜ r ≡ first (λ i. not (ltb (rootIn (now (roots .entry)) i) nodes)) count ⌝ }
 {
@@ -153,7 +160,7 @@ fn first_bad_root(roots: &[u8], nodes: usize, count: usize) -> usize
         }
         i += 1;
     }
-    count
+    i
 }
 
 // Rows 1 to 7: the header, then the nodes, then the roots.
@@ -165,13 +172,13 @@ pub fn check(theory: &[u8]) -> Answer
         return answer;
     }
     let node_count = nodes(theory);
-    let node = first_bad_node(&theory[16..], atoms(theory), node_count);
+    let node = first_broken_node(&theory[16..], atoms(theory), node_count);
     if node < node_count {
         return refusal::refuse(6, node);
     }
-    let start = 16 + node_count * 6;
+    let start = roots_start(theory);
     let root_count = roots(theory);
-    let root = first_bad_root(&theory[start..], node_count, root_count);
+    let root = first_root_not_below(&theory[start..], node_count, root_count);
     if root < root_count {
         return refusal::refuse(7, root);
     }
@@ -246,7 +253,7 @@ fn first_untrue(roots: &[u8], values: &[u8], count: usize) -> usize
         }
         i += 1;
     }
-    count
+    i
 }
 
 // Whether a reading satisfies an accepted theory: its nodes' values go to `scratch`, then each root is looked up there.
@@ -257,7 +264,7 @@ pub fn satisfied(theory: &[u8], reading: &[u8], scratch: &mut [u8]) -> bool
     ensures { λ r. ⌜ r ≡ satisfies (readingOf (now (reading .entry))) (bookFormulas (bookOf (now (theory .entry)))) ⌝ }
 {
     values(theory, reading, scratch);
-    let start = 16 + nodes(theory) * 6;
+    let start = roots_start(theory);
     let count = roots(theory);
     first_untrue(&theory[start..], scratch, count) == count
 }

@@ -1,21 +1,22 @@
--- Laws of numbers in bytes, by linear arithmetic, and of `over`, by cutting a list where the written part ends. Assumes nothing.
-use mathlib.Core.Path.{_≡_, refl, ap, ap₂, _∙_}
+-- Laws of numbers in bytes, by linear arithmetic, of numbers below a bound, by induction, and of `over`, by cutting a list where the written part ends. Assumes nothing.
+use mathlib.Core.Path.{_≡_, refl, sym, ap, ap₂, _∙_}
+use mathlib.Core.Bool.{true, and-eq-true-iff}
 use mathlib.Core.List.{List, [], _∷_, _++_, append-assoc, append-nil}
-use Prim.Native.Nat.{ℕ, _+_, _-_, _*_, _/_, _%_, _≤_, _<_}
+use Prim.Native.Nat.{ℕ, zero, suc, _+_, _-_, _*_, _/_, _%_, _≤_, _<_}
+use native.Mathlib.Numerals.{add-one}
 use native.Mathlib.Omega.{arith}
-use lib.ListN.{length, getD, take, drop, length-append, length-drop, length-take}
-use lib.Seq.{take-all, take-length, drop-length, take-append-seam, drop-append-seam, drop-drop, getD-append-add, getD-drop}
+use lib.Dec.{ltb}
+use lib.ListN.{length, getD, take, drop, set, length-append, length-drop, length-take}
+use lib.Seq.{take-all, take-length, drop-length, take-append-seam, drop-append-seam, drop-drop, drop-cons, set-at, append-snoc, getD-append-add}
+use borrow.Author.Tests.{lt-ltb, ltb-true}
 use borrow.Rule.Slice.PartMut.{putMid}
-use Rattle.wire.specs.Wire.{u16At, u32At, u16Bytes, u32Bytes, Bytes, over}
+use Rattle.wire.specs.Wire.{u16At, u32At, u16Bytes, u32Bytes, Bytes, allBelow, over}
 
 -- ---- numbers
 
--- numbers of two and four bytes are below 65,536 and 4,294,967,296
-pub u16At-lt : (s : List ℕ) → Bytes s → (i : ℕ) → u16At s i < 65536
+-- a number of two bytes is below 65,536
+u16At-lt : (s : List ℕ) → Bytes s → (i : ℕ) → u16At s i < 65536
 u16At-lt s h i = omega (arith, h i, h (i + 1))
-
-pub u32At-lt : (s : List ℕ) → Bytes s → (i : ℕ) → u32At s i < 4294967296
-u32At-lt s h i = omega (arith, u16At-lt s h i, u16At-lt s h (i + 2))
 
 -- a number behind a prefix is a number of what follows it
 pub u16At-append : (before s : List ℕ) (i j : ℕ) → j ≡ length before + i → u16At (before ++ s) j ≡ u16At s i
@@ -23,23 +24,12 @@ u16At-append before s i j e =
     let next : length before + i + 1 ≡ length before + (i + 1) = omega arith in
     rw (e, next, getD-append-add before s i 0, getD-append-add before s (i + 1) 0)
 
-pub u32At-append : (before s : List ℕ) (i j : ℕ) → j ≡ length before + i → u32At (before ++ s) j ≡ u32At s i
-u32At-append before s i j e = rw (u16At-append before s i j e, u16At-append before s (i + 2) (j + 2) (omega arith))
-
--- a number of a part that starts at k is one of the whole
-pub u16At-drop : (k : ℕ) (s : List ℕ) (i : ℕ) → u16At (drop k s) i ≡ u16At s (k + i)
-u16At-drop k s i =
-    let next : k + (i + 1) ≡ k + i + 1 = omega arith in
-    rw (getD-drop k s i 0, getD-drop k s (i + 1) 0, next)
-
 -- reading what was written gives the number back
-pub u16At-u16Bytes : (before after : List ℕ) (n i : ℕ) → i ≡ length before → n < 65536 → u16At (before ++ (u16Bytes n ++ after)) i ≡ n
-u16At-u16Bytes before after n i e h = u16At-append before (u16Bytes n ++ after) 0 i (omega arith) ∙ omega arith
+pub u16At-u16Bytes : (n : ℕ) → n < 65536 → u16At (u16Bytes n) 0 ≡ n
+u16At-u16Bytes n h = omega arith
 
-pub u32At-u32Bytes : (before after : List ℕ) (n i : ℕ) → i ≡ length before → n < 4294967296 → u32At (before ++ (u32Bytes n ++ after)) i ≡ n
-u32At-u32Bytes before after n i e h =
-    let low : n % 256 + n / 256 % 256 * 256 ≡ n % 65536 = omega arith in
-    u32At-append before (u32Bytes n ++ after) 0 i (omega arith) ∙ omega arith
+pub u32At-u32Bytes : (n : ℕ) → n < 4294967296 → u32At (u32Bytes n) 0 ≡ n
+u32At-u32Bytes n h = let low : u16At (u16Bytes n) 0 ≡ n % 65536 = omega arith in omega arith
 
 -- writing what was read gives the bytes back
 pub u16Bytes-u16At : (s : List ℕ) → Bytes s → (i : ℕ) → u16Bytes (u16At s i) ≡ getD s i 0 ∷ getD s (i + 1) 0 ∷ []
@@ -53,6 +43,18 @@ u32Bytes-u32At s h i =
     let low : u16Bytes (x + y * 65536) ≡ u16Bytes x = ap₂ (λ (a b : ℕ). a ∷ b ∷ []) (omega arith) (omega arith) in
     let high : (x + y * 65536) / 65536 ≡ y = omega (arith, u16At-lt s h i) in
     ap₂ (λ (a b : List ℕ). a ++ b) (low ∙ u16Bytes-u16At s h i) (rw (high, ← last) (u16Bytes-u16At s h (i + 2)))
+
+-- ---- numbers below a bound
+
+-- every number of a list is below n exactly if the one at each index is
+pub allBelow-at : (n : ℕ) (ks : List ℕ) → allBelow n ks ≡ true → (i : ℕ) → i < length ks → getD ks i 0 < n
+allBelow-at n [] h i l = absurd (omega arith)
+allBelow-at n (k ∷ ks) h zero l = ltb-true k n (and-eq-true-iff (ltb k n) (allBelow n ks) .0 h .0)
+allBelow-at n (k ∷ ks) h (suc i) l = allBelow-at n ks (and-eq-true-iff (ltb k n) (allBelow n ks) .0 h .1) i (omega arith)
+
+pub allBelow-each : (n : ℕ) (ks : List ℕ) → ((i : ℕ) → i < length ks → getD ks i 0 < n) → allBelow n ks ≡ true
+allBelow-each n [] h = refl
+allBelow-each n (k ∷ ks) h = rw (lt-ltb k n (h 0 (omega arith))) (allBelow-each n ks (λ i l. h (suc i) (omega arith)))
 
 -- ---- parts of a slice
 
@@ -73,6 +75,11 @@ take-over new old = take-append-seam new (drop (length new) old)
 -- the part past it is unchanged
 pub drop-over : (new old : List ℕ) → drop (length new) (over new old) ≡ drop (length new) old
 drop-over new old = drop-append-seam new (drop (length new) old)
+
+-- one byte more, stored behind those written
+pub over-store : (new old : List ℕ) (k byte : ℕ) → length new ≡ k → k < length old → set (over new old) k byte ≡ over (new ++ (byte ∷ [])) old
+over-store new old k byte e h =
+    rw (length-append, e, add-one, drop-cons old k 0 h, set-at new _ _ byte k e) (sym (append-snoc new byte (drop (suc k) old)))
 
 -- Where a writer stands: `out` is `done` written over `old`, and `at` is where the unwritten rest begins.
 pub record Written (done old out : List ℕ) (at : ℕ) : Type 0 where

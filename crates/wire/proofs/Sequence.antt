@@ -2,12 +2,12 @@
 use mathlib.Core.Path.{_≡_, refl, _∙_, ap, ap₂}
 use mathlib.Core.Logic.{⊎-elim}
 use mathlib.Core.List.{[], _∷_, _++_, map, map-append}
-use Prim.Native.Nat.{ℕ, zero, suc, _+_, _≤_, _<_}
+use Prim.Native.Nat.{ℕ, zero, suc, _+_, _<_}
 use native.Mathlib.Nat.{eq-or-lt-of-le}
 use native.Mathlib.Numerals.{add-one}
 use native.Mathlib.Omega.{arith}
-use lib.ListN.{length, getD, take, length-append, List·getD-append}
-use lib.Seq.{getD-at, take-append-le, take-all}
+use lib.ListN.{length, getD, length-append, List·getD-append}
+use lib.Seq.{getD-at}
 use Rattle.wire.specs.Sequence.{upTo}
 
 module _ {S : Type 0} where
@@ -32,16 +32,6 @@ module _ {S : Type 0} where
   getD-upTo f (suc n) k d h = ⊎-elim
       (λ (e : suc k ≡ suc n). let m : k ≡ n = omega arith in rw m (getD-at (upTo f n) (f n) [] d n (length-upTo f n)))
       (λ (l : suc k < suc n). List·getD-append (upTo f n) (f n ∷ []) d k (omega (arith, length-upTo f n)) ∙ getD-upTo f n k d (omega arith))
-      (eq-or-lt-of-le h)
-
-  -- The first k of the first n are the first k.
-  pub take-upTo : (f : ℕ → S) (n k : ℕ) → k ≤ n → take k (upTo f n) ≡ upTo f k
-  unfolding upTo
-  take-upTo f zero zero h = refl
-  take-upTo f zero (suc k) h = absurd (omega arith)
-  take-upTo f (suc n) k h = ⊎-elim
-      (λ (e : k ≡ suc n). rw e (take-all (suc n) (upTo f (suc n)) (omega (arith, length-upTo f (suc n)))))
-      (λ (l : k < suc n). take-append-le k (upTo f n) (f n ∷ []) (omega (arith, length-upTo f n)) ∙ take-upTo f n k (omega arith))
       (eq-or-lt-of-le h)
 
   -- Sequences that agree below n have the same first n items.

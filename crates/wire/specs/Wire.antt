@@ -1,6 +1,8 @@
--- Little-endian numbers of two and four bytes, and what writing over the start of a list leaves.
+-- Little-endian numbers of two and four bytes, numbers below a bound, and what writing over the start of a list leaves.
+use mathlib.Core.Bool.{Bool, true, _&&_}
 use mathlib.Core.List.{List, [], _∷_, _++_}
 use Prim.Native.Nat.{ℕ, _+_, _*_, _/_, _%_, _<_}
+use lib.Dec.{ltb}
 use lib.ListN.{length, getD, drop}
 
 -- the number of two bytes at an index
@@ -22,6 +24,11 @@ u32Bytes n = u16Bytes n ++ u16Bytes (n / 65536)
 -- every number of a list is a byte
 abbrev pub Bytes : List ℕ → Type 0
 Bytes s = (i : ℕ) → getD s i 0 < 256
+
+-- every number of a list is below n
+abbrev pub allBelow : (n : ℕ) → List ℕ → Bool
+allBelow n [] = true
+allBelow n (k ∷ ks) = ltb k n && allBelow n ks
 
 -- new bytes written over the start of the old: those past the written part are unchanged
 abbrev pub over : List ℕ → List ℕ → List ℕ

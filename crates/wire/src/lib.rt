@@ -1,4 +1,4 @@
-// Numbers of two and four bytes in a slice, little-endian, and bytes written over the start of a slice.
+//! Numbers of two and four bytes in a slice, little-endian, and bytes written over the start of a slice.
 ghost use mathlib.Core.Path.{_≡_};
 ghost use Prim.Native.Nat.{_+_, _≤_, _<_};
 ghost use lib.ListN.{length};

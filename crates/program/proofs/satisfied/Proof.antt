@@ -11,7 +11,7 @@ use Rattle.wire.specs.Sequence.{upTo}
 use Rattle.wire.proofs.Sequence.{upTo-none}
 use Rattle.logic.specs.Formula.{readingOf, valueOf}
 use Rattle.program.specs.Rule.{allHold}
-use Rattle.program.specs.Image.{sizeOf, ruleCount, ruleSection, ruleIn, programOf}
+use Rattle.program.specs.Image.{sizeOf, ruleCount, headerLength, ruleSection, ruleIn, programOf}
 use Rattle.program.proofs.Rules.{allHold-more, allHold-broken}
 use Rattle.wire.proofs.Laws.{part-from}
 use Rattle.program.proofs.Accepted.{Accepted, none-programRows, ruleKeeps-true}
@@ -49,7 +49,7 @@ rule-holds-requires c κs =
     let p = now (start .args .program) in
     let a = accepted start in
     let inside : loop .loop .k < ruleCount p = rw (loop .before .before .u16-at .ensures .0) at (c .loop-test .taken) in
-    rw (part-from 16 p) (rw (length-drop 16 p) (omega (arith, a .exact)), ruleKeeps-true (sizeOf p) (ruleSection p) (loop .loop .k) (a .keeps (loop .loop .k) inside) .few)
+    rw (part-from headerLength p) (rw (length-drop headerLength p) (omega (arith, a .exact)), ruleKeeps-true (sizeOf p) (ruleSection p) (loop .loop .k) (a .keeps (loop .loop .k) inside) .few)
 
 returns : tie.Need-returns Inv-loop μ-loop
 unfolding programOf
@@ -59,7 +59,7 @@ returns c =
     let p = now (start .args .program) in
     let count = turn .before .before .before .u16-at .ensures .0 in
     let fails = sym (c .before .rule-holds .ensures) ∙ not-true _ (c .if1 .taken) in
-    sym (allHold-broken (valueOf (readingOf (now (start .args .reading)))) (ruleIn (ruleSection p)) (ruleCount p) (turn .before .loop .k) (rw count at (turn .loop-test .taken)) (rw (part-from 16 p) at fails))
+    sym (allHold-broken (valueOf (readingOf (now (start .args .reading)))) (ruleIn (ruleSection p)) (ruleCount p) (turn .before .loop .k) (rw count at (turn .loop-test .taken)) (rw (part-from headerLength p) at fails))
 
 add-k : tie.Need-add-k Inv-loop μ-loop
 add-k c = search needs
@@ -79,7 +79,7 @@ returns-2 c =
     let loop = c .before in
     let p = now (loop .before .before .before .before .before .args .program) in
     let e : loop .loop .k ≡ ruleCount p = omega (arith, loop .before .before .u16-at .ensures .0) in
-    sym (rw (part-from 16 p, e) at (loop .loop .inv .0))
+    sym (rw (part-from headerLength p, e) at (loop .loop .inv .0))
 
 pub satisfied-spec : {M : Type 1} → statement M
 satisfied-spec =

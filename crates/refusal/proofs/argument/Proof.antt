@@ -1,14 +1,15 @@
 -- `argument` gives rows 9 and 10: it tries the bytes from the first on, and before each turn it has not passed the place of row 10. Assumes nothing.
-use mathlib.Core.Path.{_≡_, sym, _∙_}
-use mathlib.Core.List.{[], _∷_}
+use mathlib.Core.Path.{sym, _∙_}
+use mathlib.Core.List.{List, [], _∷_}
 use Prim.Native.Nat.{_-_, _≤_}
 use lib.ListN.{length}
 use denote.Ref.{now}
 use borrow.Author.Needs.{needs}
 use borrow.Author.Tests.{eq-eqb, ne-eqb}
-use Rattle.refusal.specs.Table.{answer}
+use Rattle.refusal.specs.Table.{Row}
 use Rattle.refusal.specs.Rows.{row10, argumentRows}
-use Rattle.refusal.proofs.First.{first-on, firstSuch-here, firstSuch-end}
+use Rattle.refusal.proofs.Table.{Reached, reached-first, reached-next, reached-refused, reached-accepted}
+use Rattle.refusal.proofs.First.{first-here, first-on, first-end, firstSuch-refused, firstSuch-next}
 use Rattle.refusal.proofs.argument.Statement.{statement}
 use Rattle.refusal.proofs.argument.Tie as tie
 
@@ -18,12 +19,16 @@ Inv-loop bytes count candidate place₀ place = place ≤ row10 candidate bytes 
 abbrev μ-loop : tie.MeasureT-loop
 μ-loop bytes count candidate place₀ place = length bytes - place
 
+-- the rows of this call
+abbrev rows : tie.Start Inv-loop μ-loop → List Row
+rows c = argumentRows (c .args .candidate) (c .args .count) (now (c .args .bytes))
+
 refuse-requires : tie.Need-refuse-requires Inv-loop μ-loop
 refuse-requires c κs = search needs
 
 returns : tie.Need-returns Inv-loop μ-loop
 unfolding argumentRows
-returns c = c .refuse .ensures ∙ simp (ne-eqb _ _ (c .before .if1 .taken))
+returns c = reached-refused (reached-first (rows (c .before .before .before)) 0) (rw (ne-eqb _ _ (c .before .if1 .taken))) (c .refuse .ensures)
 
 loop-holds : tie.Need-loop-holds Inv-loop μ-loop
 loop-holds c = search needs
@@ -37,20 +42,17 @@ is-wrong-requires c κs = search needs
 refuse-requires-2 : tie.Need-refuse-requires-2 Inv-loop μ-loop
 refuse-requires-2 c κs = search needs
 
--- in the loop row 9 does not apply, so the answer is that of row 10
-past9 : (c : tie.At-loop Inv-loop μ-loop) →
-    let bytes = now (c .before .before .before .args .bytes) in
-    let candidate = c .before .before .before .args .candidate in
-    answer (argumentRows candidate (c .before .before .before .args .count) bytes) 0 ≡ answer (row10 candidate bytes ∷ []) 0
+-- in the loop row 9 is past
+past9 : (c : tie.At-loop Inv-loop μ-loop) → let start = c .before .before .before in Reached (rows start) 0 (row10 (start .args .candidate) (now (start .args .bytes)) ∷ [])
 unfolding argumentRows
-past9 c = simp (eq-eqb _ _ (c .before .if1 .left))
+past9 c = reached-next (reached-first (rows (c .before .before .before)) 0) (rw (eq-eqb _ _ (c .before .if1 .left)))
 
 returns-2 : tie.Need-returns-2 Inv-loop μ-loop
 returns-2 c =
     let turn = c .before .before .before .before in
     let loop = turn .before in
     let found = sym (c .before .before .is-wrong .ensures) ∙ c .before .if2 .taken in
-    c .refuse2 .ensures ∙ sym (past9 loop ∙ firstSuch-here 10 _ _ _ (loop .loop .inv) [] 0 (turn .loop-test .taken) found)
+    firstSuch-refused 10 _ _ _ (first-here _ _ _ (loop .loop .inv) found) (past9 loop) (turn .loop-test .taken) (c .refuse2 .ensures)
 
 add-place : tie.Need-add-place Inv-loop μ-loop
 add-place c = search needs
@@ -69,7 +71,8 @@ accept-requires c κs = search needs
 returns-3 : tie.Need-returns-3 Inv-loop μ-loop
 returns-3 c =
     let loop = c .before .before in
-    c .accept .ensures ∙ sym (past9 loop ∙ firstSuch-end 10 _ _ _ (loop .loop .inv) [] 0 (c .before .loop-test .left))
+    let ended = c .before .loop-test .left in
+    reached-accepted (firstSuch-next 10 _ _ _ (first-end _ _ _ (loop .loop .inv) ended) (past9 loop) ended) (c .accept .ensures)
 
 pub argument-spec : {M : Type 1} → statement M
 argument-spec =

@@ -1,5 +1,4 @@
 -- `first_untrue` gives the first root whose value is not 2: before each turn it has not passed that root. Assumes nothing.
-use mathlib.Core.Path.{sym}
 use mathlib.Core.Bool.{not}
 use Prim.Native.Nat.{_-_, _≤_}
 use lib.Dec.{eqb}
@@ -35,7 +34,7 @@ shared-slice-read-if1 c =
 returns : tie.Need-returns Inv-loop μ-loop
 returns c =
     let read = c .before .before in
-    sym (first-here _ _ _ (read .before .before .loop .inv) (rw (← read .u16-at .ensures .0, ne-eqb _ 2 (c .if1 .taken))))
+    first-here _ _ _ (read .before .before .loop .inv) (rw (← read .u16-at .ensures .0, ne-eqb _ 2 (c .if1 .taken)))
 
 add-i : tie.Need-add-i Inv-loop μ-loop
 add-i c = search needs
@@ -50,7 +49,7 @@ loop-again c =
     first-on _ _ _ (turn .before .loop .inv) (turn .loop-test .taken) (rw (← read .u16-at .ensures .0, eq-eqb _ 2 (c .if1 .left)))
 
 returns-2 : tie.Need-returns-2 Inv-loop μ-loop
-returns-2 c = sym (first-end _ _ _ (c .before .loop .inv) (c .loop-test .left))
+returns-2 c = first-end _ _ _ (c .before .loop .inv) (c .loop-test .left)
 
 pub first-untrue-spec : {M : Type 1} → statement M
 first-untrue-spec =

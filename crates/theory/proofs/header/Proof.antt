@@ -6,77 +6,80 @@ use lib.ListN.{drop}
 use denote.Ref.{now}
 use borrow.Author.Needs.{needs}
 use borrow.Author.Tests.{lt-ltb, le-ltb, eq-eqb, ne-eqb}
-use Rattle.refusal.specs.declared.Answer.{Answer}
-use Rattle.refusal.specs.Table.{answer}
-use Rattle.theory.specs.Image.{nodeCount, rootCount}
+use Rattle.refusal.proofs.Table.{Reached, reached-first, reached-next, reached-refused, reached-accepted}
+use Rattle.theory.specs.Image.{nodeCount, rootCount, rootsStart}
 use Rattle.theory.specs.Rows.{row2, row4, headerRows}
 use Rattle.theory.proofs.header.Statement.{statement}
 use Rattle.theory.proofs.header.Tie as tie
 
--- the answer where the first n rows are past
-abbrev From : ℕ → List ℕ → Answer
-From n t = answer (drop n (headerRows t)) 0
+-- a walk has come to row n + 1
+abbrev At : ℕ → List ℕ → Type 0
+At n t = Reached (headerRows t) 0 (drop n (headerRows t))
 
 abbrev image : tie.Start → List ℕ
 image c = now (c .args .theory)
 
--- the image at the place behind each row's test
-abbrev at1 : tie.Else1 → tie.Start
-at1 c = c .before .before
+-- the image behind each row's test
+abbrev image1 : tie.Else1 → List ℕ
+image1 c = image (c .before .before)
 
-abbrev at2 : tie.Else2 → tie.Else1
-at2 c = c .before .before .before .before .before
+abbrev image2 : tie.Else2 → List ℕ
+image2 c = image1 (c .before .before .before .before .before)
 
-abbrev at3 : tie.Else3 → tie.Else2
-at3 c = c .before .before
+abbrev image3 : tie.Else3 → List ℕ
+image3 c = image2 (c .before .before)
 
-abbrev at4 : tie.Else4 → tie.Else3
-at4 c = c .before .before
+abbrev image4 : tie.Else4 → List ℕ
+image4 c = image3 (c .before .before .before)
 
-nodes-are : (c : tie.Else2) → c .before .before .before .before .nodes .result ≡ nodeCount (image (at1 (at2 c)))
-nodes-are c = c .before .before .before .before .nodes .ensures .0
+-- R and the start of the roots, as they were read
+roots-are : (c : tie.Else2) → c .before .before .before .before .roots .result ≡ rootCount (image2 c)
+roots-are c = c .before .before .before .before .roots .ensures .0
 
-roots-are : (c : tie.Else2) → c .before .before .before .roots .result ≡ rootCount (image (at1 (at2 c)))
-roots-are c = c .before .before .before .roots .ensures .0
+start-is : (c : tie.After-roots-start) → c .roots-start .result ≡ rootsStart (nodeCount (image3 (c .before)))
+start-is c = c .roots-start .ensures .0
 
-limits : (c : tie.After-over-limits) → row2 (image (at1 (c .before .before .before .before))) .applies ≡ c .over-limits .result
+limits : (c : tie.After-over-limits) → row2 (image1 (c .before .before .before .before)) .applies ≡ c .over-limits .result
 limits c =
-    sym (c .over-limits .ensures ∙ rw (c .before .atoms .ensures .0, c .before .before .before .nodes .ensures .0, c .before .before .roots .ensures .0))
+    sym (c .over-limits .ensures ∙ rw (c .before .before .atoms .ensures .0, c .before .nodes .ensures .0, c .before .before .before .roots .ensures .0))
 
-offsets : (c : tie.After-offsets-differ) → row4 (image (at1 (at2 (at3 (c .before))))) .applies ≡ c .offsets-differ .result
-offsets c = rw (← nodes-are (at3 (c .before))) (sym (c .offsets-differ .ensures))
+offsets : (c : tie.After-offsets-differ) → row4 (image3 (c .before .before)) .applies ≡ c .offsets-differ .result
+offsets c = rw (← start-is (c .before)) (sym (c .offsets-differ .ensures))
 
-past1 : (c : tie.Else1) → From 0 (image (at1 c)) ≡ From 1 (image (at1 c))
+first : (c : tie.Start) → At 0 (image c)
+first c = reached-first (headerRows (image c)) 0
+
+past1 : (c : tie.Else1) → At 1 (image1 c)
 unfolding headerRows
-past1 c = simp (le-ltb _ _ (c .if1 .left))
+past1 c = reached-next (first (c .before .before)) (le-ltb _ _ (c .if1 .left))
 
-past2 : (c : tie.Else2) → From 0 (image (at1 (at2 c))) ≡ From 2 (image (at1 (at2 c)))
+past2 : (c : tie.Else2) → At 2 (image2 c)
 unfolding headerRows
-past2 c = past1 (at2 c) ∙ simp (limits (c .before), c .if2 .left)
+past2 c = reached-next (past1 (c .before .before .before .before .before)) (limits (c .before) ∙ c .if2 .left)
 
-past3 : (c : tie.Else3) → From 0 (image (at1 (at2 (at3 c)))) ≡ From 3 (image (at1 (at2 (at3 c))))
+past3 : (c : tie.Else3) → At 3 (image3 c)
 unfolding headerRows
-past3 c = past2 (at3 c) ∙ simp (← c .before .u16-at .ensures .0, eq-eqb _ _ (c .if3 .left))
+past3 c = reached-next (past2 (c .before .before)) (rw (← c .before .u16-at .ensures .0, eq-eqb _ 0 (c .if3 .left)))
 
-past4 : (c : tie.Else4) → From 0 (image (at1 (at2 (at3 (at4 c))))) ≡ From 4 (image (at1 (at2 (at3 (at4 c)))))
+past4 : (c : tie.Else4) → At 4 (image4 c)
 unfolding headerRows
-past4 c = past3 (at4 c) ∙ simp (offsets (c .before), c .if4 .left)
+past4 c = reached-next (past3 (c .before .before .before)) (offsets (c .before) ∙ c .if4 .left)
 
 refuse-requires : tie.Need-refuse-requires
 refuse-requires c κs = search needs
 
 returns : tie.Need-returns
 unfolding headerRows
-returns c = c .refuse .ensures ∙ simp (lt-ltb _ _ (c .before .if1 .taken))
-
-nodes-requires : tie.Need-nodes-requires
-nodes-requires c κs = search needs
+returns c = reached-refused (first (c .before .before .before)) (lt-ltb _ _ (c .before .if1 .taken)) (c .refuse .ensures)
 
 roots-requires : tie.Need-roots-requires
 roots-requires c κs = search needs
 
 atoms-requires : tie.Need-atoms-requires
 atoms-requires c κs = search needs
+
+nodes-requires : tie.Need-nodes-requires
+nodes-requires c κs = search needs
 
 over-limits-requires : tie.Need-over-limits-requires
 over-limits-requires c κs = search needs
@@ -88,7 +91,7 @@ returns-2 : tie.Need-returns-2
 unfolding headerRows
 returns-2 c =
     let over = c .before .before in
-    c .refuse2 .ensures ∙ sym (past1 (over .before .before .before .before) ∙ simp (limits over, c .before .if2 .taken))
+    reached-refused (past1 (over .before .before .before .before)) (limits over ∙ c .before .if2 .taken) (c .refuse2 .ensures)
 
 u16-at-requires : tie.Need-u16-at-requires
 u16-at-requires c κs = search needs
@@ -100,13 +103,10 @@ returns-3 : tie.Need-returns-3
 unfolding headerRows
 returns-3 c =
     let read = c .before .before in
-    c .refuse3 .ensures ∙ sym (past2 (read .before) ∙ simp (← read .u16-at .ensures .0, ne-eqb _ _ (c .before .if3 .taken)))
+    reached-refused (past2 (read .before)) (rw (← read .u16-at .ensures .0, ne-eqb _ 0 (c .before .if3 .taken))) (c .refuse3 .ensures)
 
-mul-start : tie.Need-mul-start
-mul-start c = search needs
-
-add-start : tie.Need-add-start
-add-start c = search needs
+roots-start-requires : tie.Need-roots-start-requires
+roots-start-requires c κs = search needs
 
 offsets-differ-requires : tie.Need-offsets-differ-requires
 offsets-differ-requires c κs = search needs
@@ -118,7 +118,7 @@ returns-4 : tie.Need-returns-4
 unfolding headerRows
 returns-4 c =
     let differ = c .before .before in
-    c .refuse4 .ensures ∙ sym (past3 (differ .before) ∙ simp (offsets differ, c .before .if4 .taken))
+    reached-refused (past3 (differ .before .before)) (offsets differ ∙ c .before .if4 .taken) (c .refuse4 .ensures)
 
 mul-wanted : tie.Need-mul-wanted
 mul-wanted c = search needs
@@ -133,8 +133,9 @@ returns-5 : tie.Need-returns-5
 unfolding headerRows
 returns-5 c =
     let past = c .before .before in
-    let counts = at3 (at4 past) in
-    c .refuse5 .ensures ∙ sym (past4 past ∙ simp (← nodes-are counts, ← roots-are counts, ne-eqb _ _ (c .before .if5 .taken)))
+    let start = past .before .before in
+    let roots = roots-are (start .before .before .before) in
+    reached-refused (past4 past) (rw (← start-is start, ← roots, ne-eqb _ _ (c .before .if5 .taken))) (rw (← start-is start, ← roots) (c .refuse5 .ensures))
 
 accept-requires : tie.Need-accept-requires
 accept-requires c κs = search needs
@@ -143,8 +144,8 @@ returns-6 : tie.Need-returns-6
 unfolding headerRows
 returns-6 c =
     let past = c .before .before in
-    let counts = at3 (at4 past) in
-    c .accept .ensures ∙ sym (past4 past ∙ simp (← nodes-are counts, ← roots-are counts, eq-eqb _ _ (c .before .if5 .left)))
+    let start = past .before .before in
+    reached-accepted (reached-next (past4 past) (rw (← start-is start, ← roots-are (start .before .before .before), eq-eqb _ _ (c .before .if5 .left)))) (c .accept .ensures)
 
 pub header-spec : {M : Type 1} → statement M
 header-spec =
@@ -152,17 +153,16 @@ header-spec =
     (tie.spec
     refuse-requires
     returns
-    nodes-requires
     roots-requires
     atoms-requires
+    nodes-requires
     over-limits-requires
     refuse-requires-2
     returns-2
     u16-at-requires
     refuse-requires-3
     returns-3
-    mul-start
-    add-start
+    roots-start-requires
     offsets-differ-requires
     refuse-requires-4
     returns-4

@@ -11,7 +11,7 @@ shared-slice-read-kind : tie.Need-shared-slice-read-kind
 shared-slice-read-kind c = search needs
 
 returns : tie.Need-returns
-returns c = simp (le-ltb _ _ (c .if1 .taken))
+returns c = simp (le-ltb _ 7 (c .if1 .taken))
 
 add-if2 : tie.Need-add-if2
 add-if2 c = search needs
@@ -20,7 +20,7 @@ shared-slice-read-if2 : tie.Need-shared-slice-read-if2
 shared-slice-read-if2 c = search needs
 
 returns-2 : tie.Need-returns-2
-returns-2 c = simp (lt-ltb _ _ (c .before .before .if1 .left), ne-eqb _ _ (c .if2 .taken))
+returns-2 c = simp (lt-ltb _ 7 (c .before .before .if1 .left), ne-eqb _ 0 (c .if2 .taken))
 
 left-limit-requires : tie.Need-left-limit-requires
 left-limit-requires c κs = search needs
@@ -34,11 +34,11 @@ u16-at-requires c κs = search needs
 returns-3 : tie.Need-returns-3
 returns-3 c =
     simp (
-      lt-ltb _ _ (c .before .before .before .before .before .if1 .left),
-      eq-eqb _ _ (c .before .before .before .if2 .left),
+      lt-ltb _ 7 (c .before .before .before .before .before .if1 .left),
+      eq-eqb _ 0 (c .before .before .before .if2 .left),
       ← c .before .u16-at .ensures .0,
       ← c .before .before .left-limit .ensures,
-      le-ltb _ _ (c .if3 .taken),
+      le-ltb _ (c .before .before .left-limit .result) (c .if3 .taken),
     )
 
 add-u16-at-2 : tie.Need-add-u16-at-2
@@ -53,8 +53,8 @@ right-limit-requires c κs = search needs
 returns-4 : tie.Need-returns-4
 returns-4 c =
     simp (
-      lt-ltb _ _ (c .before .before .before .before .before .before .before .if1 .left),
-      eq-eqb _ _ (c .before .before .before .before .before .if2 .left),
+      lt-ltb _ 7 (c .before .before .before .before .before .before .before .if1 .left),
+      eq-eqb _ 0 (c .before .before .before .before .before .if2 .left),
       ← c .before .before .before .u16-at .ensures .0,
       ← c .before .before .before .before .left-limit .ensures,
       lt-ltb _ _ (c .before .before .if3 .left),

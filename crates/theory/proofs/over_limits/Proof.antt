@@ -1,16 +1,17 @@
 -- `over_limits` gives row 2's test: its three ways out are those of the definition. Assumes nothing.
 use borrow.Author.Tests.{lt-ltb, le-ltb}
+use Rattle.refusal.specs.Limits.{mostAtoms, mostNodes}
 use Rattle.theory.proofs.over_limits.Statement.{statement}
 use Rattle.theory.proofs.over_limits.Tie as tie
 
 returns : tie.Need-returns
-returns c = simp (lt-ltb _ _ (c .if1 .taken))
+returns c = simp (lt-ltb mostAtoms _ (c .if1 .taken))
 
 returns-2 : tie.Need-returns-2
-returns-2 c = simp (le-ltb _ _ (c .before .if1 .left), lt-ltb _ _ (c .if2 .taken))
+returns-2 c = simp (le-ltb mostAtoms _ (c .before .if1 .left), lt-ltb mostNodes _ (c .if2 .taken))
 
 returns-3 : tie.Need-returns-3
-returns-3 c = simp (le-ltb _ _ (c .before .if1 .left), le-ltb _ _ (c .if2 .left))
+returns-3 c = simp (le-ltb mostAtoms _ (c .before .if1 .left), le-ltb mostNodes _ (c .if2 .left))
 
 pub over-limits-spec : {M : Type 1} → statement M
 over-limits-spec = tie.close (tie.spec returns returns-2 returns-3)

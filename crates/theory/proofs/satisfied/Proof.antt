@@ -1,7 +1,7 @@
 -- `satisfied` says whether a reading satisfies: the scan of the roots over the values written, by `satisfies-roots`. Assumes nothing.
 use mathlib.Core.Path.{_≡_, ap}
 use mathlib.Core.List.{List}
-use Prim.Native.Nat.{ℕ, _+_, _*_}
+use Prim.Native.Nat.{ℕ}
 use native.Mathlib.Omega.{arith}
 use lib.Dec.{eqb}
 use lib.ListN.{drop, length-drop}
@@ -25,29 +25,23 @@ image p = now (start p .args .theory)
 is-accepted : (p : tie.After-roots) → Accepted (image p)
 is-accepted p = accepted (image p) (start p .pre .0)
 
-section-is : (p : tie.After-roots) → drop (16 + p .before .nodes .result * 6) (image p) ≡ rootSection (image p)
-section-is p = ap (λ (n : ℕ). drop (16 + n * 6) (image p)) (p .before .nodes .ensures .0)
+section-is : (p : tie.After-roots) → drop (p .before .roots-start .result) (image p) ≡ rootSection (image p)
+section-is p = ap (λ (n : ℕ). drop n (image p)) (p .before .roots-start .ensures .0)
 
 values-requires : tie.Need-values-requires
 values-requires c κs = search needs
 
-nodes-requires : tie.Need-nodes-requires
-nodes-requires c κs = accepted _ (c .before .before .before .before .before .before .before .pre .0) .header .long
-
-mul-start : tie.Need-mul-start
-mul-start c = search needs
-
-add-start : tie.Need-add-start
-add-start c = search needs
+roots-start-requires : tie.Need-roots-start-requires
+roots-start-requires c κs = accepted _ (c .before .before .before .before .before .before .before .pre .0) .header .long
 
 roots-requires : tie.Need-roots-requires
 roots-requires c κs = accepted _ (c .before .before .before .before .before .before .before .before .pre .0) .header .long
 
 sub-first-untrue : tie.Need-sub-first-untrue
-sub-first-untrue c = omega (arith, is-accepted c .header, c .before .nodes .ensures .0)
+sub-first-untrue c = omega (arith, is-accepted c .header, c .before .roots-start .ensures .0)
 
 part-first-untrue-start : tie.Need-part-first-untrue-start
-part-first-untrue-start c = omega (arith, is-accepted c .header, c .before .nodes .ensures .0)
+part-first-untrue-start c = omega (arith, is-accepted c .header, c .before .roots-start .ensures .0)
 
 part-first-untrue-end : tie.Need-part-first-untrue-end
 part-first-untrue-end c = search needs
@@ -57,7 +51,7 @@ first-untrue-requires c κs =
     let p = c .before .before in
     let a = is-accepted p in
     let call = p .before .before .before .before in (
-      rw (part-from, length-drop) (omega (arith, a .header, p .before .nodes .ensures .0, p .roots .ensures .0)),
+      rw (part-from, length-drop) (omega (arith, a .header, p .before .roots-start .ensures .0, p .roots .ensures .0)),
       λ i l. rw (part-from, section-is p) (omega (arith, a .roots-below i (omega (arith, p .roots .ensures .0)), call .values .kept, start p .pre .1 .1)),
     )
 
@@ -74,7 +68,7 @@ returns c =
       ← p .roots .ensures .0,
       ← call .values .ensures,
       ← section-is p,
-      ← part-from (16 + p .before .nodes .result * 6) (image p),
+      ← part-from (p .before .roots-start .result) (image p),
     )
     (ap (λ (r : ℕ). eqb r (p .roots .result)) (c .first-untrue .ensures))
 
@@ -83,9 +77,7 @@ satisfied-spec =
     tie.close
     (tie.spec
     values-requires
-    nodes-requires
-    mul-start
-    add-start
+    roots-start-requires
     roots-requires
     sub-first-untrue
     part-first-untrue-start

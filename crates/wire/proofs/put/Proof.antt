@@ -1,28 +1,29 @@
--- `put` writes the bytes over the start: before each turn the first i bytes of `out` are those of `bytes`, and the rest is as it was. Assumes nothing.
-use mathlib.Core.Path.{_≡_, refl, sym}
-use mathlib.Core.List.{List, _++_}
-use Prim.Native.Nat.{ℕ, suc, _+_, _-_, _≤_, _<_}
+-- `put` writes the bytes over the start: before each turn the first i of them are written, and the rest is as it was. Assumes nothing.
+use mathlib.Core.Path.{_≡_, refl}
+use mathlib.Core.List.{List}
+use Prim.Native.Nat.{ℕ, _+_, _-_, _≤_, _<_}
 use native.Mathlib.Numerals.{add-one}
 use native.Mathlib.Omega.{arith}
-use lib.ListN.{length, getD, take, drop, set}
-use lib.Seq.{take-suc, take-length, drop-cons, set-at, append-snoc, length-take-le}
+use lib.ListN.{length, getD, take, set}
+use lib.Seq.{take-suc, take-length, length-take-le}
 use denote.Ref.{now}
 use borrow.Author.Needs.{needs}
+use Rattle.wire.specs.Wire.{over}
+use Rattle.wire.proofs.Laws.{over-store}
 use Rattle.wire.proofs.put.Statement.{statement}
 use Rattle.wire.proofs.put.Tie as tie
 
 abbrev Inv-loop : tie.InvT-loop
-Inv-loop out₀ bytes i₀ out i = (out ≡ take i bytes ++ drop i out₀) × (i ≤ length bytes) × (length out ≡ length out₀)
+Inv-loop out₀ bytes i₀ out i = (out ≡ over (take i bytes) out₀) × (i ≤ length bytes) × (length out ≡ length out₀)
 
 abbrev μ-loop : tie.MeasureT-loop
 μ-loop out₀ bytes i₀ out i = length bytes - i
 
 -- one byte more copied
 copied : (bytes out : List ℕ) (i : ℕ) → i < length bytes → i < length out
-    → set (take i bytes ++ drop i out) i (getD bytes i 0) ≡ take (i + 1) bytes ++ drop (i + 1) out
+    → set (over (take i bytes) out) i (getD bytes i 0) ≡ over (take (i + 1) bytes) out
 copied bytes out i h k =
-    rw (add-one, drop-cons out i 0 k, take-suc bytes i 0 h, set-at (take i bytes) _ _ _ i (length-take-le i bytes (omega arith)))
-    (sym (append-snoc (take i bytes) (getD bytes i 0) (drop (suc i) out)))
+    rw (add-one, take-suc bytes i 0 h) (over-store (take i bytes) out i (getD bytes i 0) (length-take-le i bytes (omega arith)) k)
 
 loop-holds : tie.Need-loop-holds Inv-loop μ-loop
 loop-holds c = (refl, search needs, refl)

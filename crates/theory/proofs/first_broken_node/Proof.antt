@@ -1,4 +1,4 @@
--- `first_bad_node` gives the first node that breaks its row: before each turn it has not passed that node. Assumes nothing.
+-- `first_broken_node` gives the first node that breaks its row: before each turn it has not passed that node. Assumes nothing.
 use mathlib.Core.Path.{sym, ap, _∙_}
 use mathlib.Core.Bool.{not}
 use Prim.Native.Nat.{_-_, _≤_}
@@ -6,8 +6,8 @@ use borrow.Author.Needs.{needs}
 use Rattle.refusal.specs.First.{first}
 use Rattle.refusal.proofs.First.{first-here, first-on, first-end}
 use Rattle.theory.specs.Image.{nodeKeeps}
-use Rattle.theory.proofs.first_bad_node.Statement.{statement}
-use Rattle.theory.proofs.first_bad_node.Tie as tie
+use Rattle.theory.proofs.first_broken_node.Statement.{statement}
+use Rattle.theory.proofs.first_broken_node.Tie as tie
 
 abbrev Inv-loop : tie.InvT-loop
 Inv-loop nodes atoms count k₀ k = k ≤ first (λ j. not (nodeKeeps atoms nodes j)) count
@@ -23,7 +23,7 @@ keeps-requires c κs = search needs
 
 returns : tie.Need-returns Inv-loop μ-loop
 returns c =
-    sym (first-here _ _ _ (c .before .before .before .loop .inv) (ap not (sym (c .before .keeps .ensures)) ∙ c .if1 .taken))
+    first-here _ _ _ (c .before .before .before .loop .inv) (ap not (sym (c .before .keeps .ensures)) ∙ c .if1 .taken)
 
 add-k : tie.Need-add-k Inv-loop μ-loop
 add-k c = search needs
@@ -37,10 +37,10 @@ loop-again c =
     first-on _ _ _ (turn .before .loop .inv) (turn .loop-test .taken) (ap not (sym (c .before .keeps .ensures)) ∙ c .if1 .left)
 
 returns-2 : tie.Need-returns-2 Inv-loop μ-loop
-returns-2 c = sym (first-end _ _ _ (c .before .loop .inv) (c .loop-test .left))
+returns-2 c = first-end _ _ _ (c .before .loop .inv) (c .loop-test .left)
 
-pub first-bad-node-spec : {M : Type 1} → statement M
-first-bad-node-spec =
+pub first-broken-node-spec : {M : Type 1} → statement M
+first-broken-node-spec =
     tie.close
     (tie.spec
     Inv-loop

@@ -1,4 +1,4 @@
--- `first_broken` tries the rules from the first on, and before each turn it has not passed the first that breaks row 26. Assumes nothing.
+-- `first_broken_rule` tries the rules from the first on, and before each turn it has not passed the first that breaks row 26. Assumes nothing.
 use mathlib.Core.Path.{sym, ap, _∙_}
 use mathlib.Core.Bool.{not}
 use Prim.Native.Nat.{_-_, _≤_}
@@ -6,8 +6,8 @@ use borrow.Author.Needs.{needs}
 use Rattle.refusal.specs.First.{first}
 use Rattle.refusal.proofs.First.{first-here, first-on, first-end}
 use Rattle.program.specs.Image.{ruleKeeps}
-use Rattle.program.proofs.first_broken.Statement.{statement}
-use Rattle.program.proofs.first_broken.Tie as tie
+use Rattle.program.proofs.first_broken_rule.Statement.{statement}
+use Rattle.program.proofs.first_broken_rule.Tie as tie
 
 abbrev Inv-loop : tie.InvT-loop
 Inv-loop rules count size place₀ place = place ≤ first (λ j. not (ruleKeeps size rules j)) count
@@ -24,7 +24,7 @@ keeps-requires c κs = search needs
 returns : tie.Need-returns Inv-loop μ-loop
 returns c =
     let turn = c .before .before in
-    sym (first-here _ _ _ (turn .before .loop .inv) (ap not (sym (c .before .keeps .ensures)) ∙ c .if1 .taken))
+    first-here _ _ _ (turn .before .loop .inv) (ap not (sym (c .before .keeps .ensures)) ∙ c .if1 .taken)
 
 add-place : tie.Need-add-place Inv-loop μ-loop
 add-place c = search needs
@@ -38,10 +38,10 @@ loop-again c =
     first-on _ _ _ (turn .before .loop .inv) (turn .loop-test .taken) (ap not (sym (c .before .keeps .ensures)) ∙ c .if1 .left)
 
 returns-2 : tie.Need-returns-2 Inv-loop μ-loop
-returns-2 c = sym (first-end _ _ _ (c .before .loop .inv) (c .loop-test .left))
+returns-2 c = first-end _ _ _ (c .before .loop .inv) (c .loop-test .left)
 
-pub first-broken-spec : {M : Type 1} → statement M
-first-broken-spec =
+pub first-broken-rule-spec : {M : Type 1} → statement M
+first-broken-rule-spec =
     tie.close
     (tie.spec
     Inv-loop
