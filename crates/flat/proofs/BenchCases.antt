@@ -1,10 +1,9 @@
 -- The flat programs of P1 to P9 have the answer sets of the one table once their labels are dropped: demand 3 carries the books' claim over.
-use mathlib.Core.Path.{_≡_, refl, sym, _∙_, ap, subst}
+use mathlib.Core.Path.{_≡_, _∙_, ap, subst}
 use mathlib.Core.Logic.{_↔_}
-use mathlib.Core.List.{List, [], _∷_, _++_, append-nil, map, List·Memᴰ, Memᴰ·map, Memᴰ·of-map}
+use mathlib.Core.List.{List, [], append-nil, List·Memᴰ, Memᴰ·map, Memᴰ·of-map}
 use Prim.Native.Nat.{ℕ}
 use lib.ListN.{take}
-use Rattle.logic.specs.Formula.{Formula}
 use Rattle.logic.specs.Atoms.{Atoms}
 use Rattle.logic.specs.AnswerSet.{AnswerSet, answerSets}
 use Rattle.logic.proofs.AnswerSets.{answerSets-iff}

@@ -1,13 +1,12 @@
 -- Demand 3: what satisfies the flat program is the extension of what satisfies the book, so the answer sets match, whatever formulas over the book's atoms stand beside.
 use mathlib.Core.Path.{_≡_, refl, sym, _∙_, ap, ap₂, subst}
 use mathlib.Core.Logic.{_↔_}
-use mathlib.Core.Bool.{Bool, true, _&&_}
+use mathlib.Core.Bool.{true, _&&_}
 use mathlib.Core.List.{List, [], _∷_, _++_, map}
-use Prim.Native.Nat.{ℕ, zero, suc, _+_, _≤_, _<_}
+use Prim.Native.Nat.{ℕ, zero, suc, _+_}
 use native.Mathlib.Omega.{arith}
-use lib.ListN.{getD, length, take, drop, length-map, take-append-drop}
+use lib.ListN.{length, take, drop, length-map, take-append-drop}
 use lib.Seq.{drop-at, getD-take, length-take-le}
-use Rattle.logic.specs.declared.Value.{Value}
 use Rattle.logic.specs.declared.Value.the-variants.{Neither}
 use Rattle.logic.specs.Value.{trueHere}
 use Rattle.logic.specs.Formula.{Formula, Reading, value, satisfies, AllOver}
@@ -21,7 +20,7 @@ use Rattle.logic.proofs.Stable.{Stable, stable-iff, total-reading}
 use Rattle.theory.specs.Book.{Book, WellFormed, bookFormulas}
 use Rattle.program.specs.Program.{satisfiesProgram, programFormulas}
 use Rattle.program.proofs.Rules.{program-value}
-use Rattle.flat.specs.Flat.{labelTotal, flat}
+use Rattle.flat.specs.Flat.{flat}
 use Rattle.flat.specs.Extension.{bookLabels, extend, Extends}
 use Rattle.flat.specs.OneToOne.{OneToOne}
 use Rattle.flat.proofs.Rules.{agree, rules-say}

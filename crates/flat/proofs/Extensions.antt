@@ -1,9 +1,9 @@
 -- Laws of the extension: its length, what dropping the labels gives, and that each label holds the value it stands for.
-use mathlib.Core.Path.{_≡_, refl, sym, _∙_, ap, ap₂, subst}
+use mathlib.Core.Path.{_≡_, refl, sym, _∙_, ap, ap₂}
 use mathlib.Core.Logic.{_↔_}
-use mathlib.Core.Bool.{Bool, true, _&&_}
+use mathlib.Core.Bool.{true, _&&_}
 use mathlib.Core.List.{List, [], _∷_, _++_, map, map-append}
-use Prim.Native.Nat.{ℕ, zero, suc, _+_, _≤_, _<_}
+use Prim.Native.Nat.{ℕ, zero, suc, _+_, _<_}
 use native.Mathlib.Nat.{add-zero, zero-add, add-assoc}
 use native.Mathlib.Omega.{arith}
 use lib.Dec.{ltb}
@@ -11,7 +11,7 @@ use lib.ListN.{getD, length, take, drop, length-map, length-append, drop-of-leng
 use lib.Seq.{drop-cons, take-at, getD-append-add, length-take-le}
 use borrow.Author.Tests.{ltb-true}
 use Rattle.logic.specs.declared.Value.{Value}
-use Rattle.logic.specs.declared.Value.the-variants.{Neither, There, Both}
+use Rattle.logic.specs.declared.Value.the-variants.{Neither}
 use Rattle.logic.specs.Value.{negation}
 use Rattle.logic.specs.Formula.{Formula, falsum, Reading, valueOf, value}
 use Rattle.logic.proofs.Bools.{&&-split}

@@ -1,12 +1,12 @@
 -- The one-node lemma: whatever terms stand for left and right, a kind's rules hold exactly where its labels have their values. The table is tried at all values.
-use mathlib.Core.Path.{_≡_, refl, sym, _∙_, ap, fun-ext}
+use mathlib.Core.Path.{_≡_, refl, _∙_, ap, fun-ext}
 use mathlib.Core.Bool.{Bool, true, _&&_, Bool·beq}
 use Prim.Native.Nat.{ℕ, suc}
 use Rattle.logic.specs.declared.Value.{Value}
 use Rattle.logic.specs.Value.{smaller, larger, negation, implication}
 use Rattle.logic.specs.Formula.{Reading, valueOf}
 use Rattle.logic.proofs.Bools.{beq-sound}
-use Rattle.logic.proofs.Finite.{every, same, agree₄}
+use Rattle.logic.proofs.Finite.{same, agree₄}
 use Rattle.theory.specs.Book.{Kind, falseKind, trueKind, atomKind, notKind, andKind, orKind, impliesKind}
 use Rattle.program.specs.Rule.{allHold}
 use Rattle.flat.specs.Table.{Slot, x, y, L, M, rows}

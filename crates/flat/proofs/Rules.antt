@@ -8,16 +8,16 @@ use lib.Dec.{leb, ltb}
 use lib.ListN.{getD, length, length-map, List·getD-map}
 use borrow.Author.Tests.{ltb-true}
 use Rattle.logic.specs.declared.Value.{Value}
-use Rattle.logic.specs.declared.Value.the-variants.{Neither, There, Both}
-use Rattle.logic.specs.Value.{number, larger, negation, trueHere}
+use Rattle.logic.specs.declared.Value.the-variants.{Neither}
+use Rattle.logic.specs.Value.{number, larger, trueHere}
 use Rattle.logic.specs.Formula.{Formula, falsum, neg, Reading, valueOf, value, satisfies}
 use Rattle.logic.proofs.Bools.{beq-sound, &&-split, &&-if}
-use Rattle.logic.proofs.Finite.{every, same, same-sound, agree₁}
+use Rattle.logic.proofs.Finite.{same, same-sound, agree₁}
 use Rattle.theory.specs.Book.{Kind, falseKind, trueKind, atomKind, notKind, andKind, orKind, impliesKind, Node, leftLimit, rightLimit, fits, allFit, say, formulaAt, formula, formulas}
-use Rattle.program.specs.Rule.{RuleOf, Rule, allHold}
+use Rattle.program.specs.Rule.{RuleOf, allHold}
 use Rattle.program.proofs.Rules.{allHold-append}
-use Rattle.flat.specs.Table.{rows, labelCount}
-use Rattle.flat.specs.Flat.{Term, constant, name, simplify, fill, termAt, nodeRules, termOf, term, facts, rulesFrom}
+use Rattle.flat.specs.Table.{labelCount}
+use Rattle.flat.specs.Flat.{Term, constant, simplify, termAt, nodeRules, termOf, term, facts, rulesFrom}
 use Rattle.flat.specs.Extension.{meanings, labels, labelsFrom}
 use Rattle.flat.proofs.Simplify.{termValue, simplify-holds}
 use Rattle.flat.proofs.OneNode.{labelled, one-node}

@@ -1,15 +1,14 @@
 -- Filling slots and removing constants keep what a rule says: a constant is a term with a fixed value, so dropping it or the rule changes nothing.
 use mathlib.Core.Path.{_≡_, refl, sym, _∙_, ap₂}
 use mathlib.Core.Bool.{Bool, true, false, _&&_, _||_, and-true, cond, Bool·beq}
-use mathlib.Core.List.{List, [], _∷_, _++_, map}
-use Prim.Native.Nat.{ℕ}
+use mathlib.Core.List.{List, [], _∷_, map}
 use lib.Dec.{leb}
 use Rattle.logic.specs.declared.Value.{Value}
-use Rattle.logic.specs.declared.Value.the-variants.{Neither, There, Both}
+use Rattle.logic.specs.declared.Value.the-variants.{Neither, Both}
 use Rattle.logic.specs.Value.{number, smaller, larger, negation}
 use Rattle.logic.specs.Formula.{Reading, valueOf}
 use Rattle.logic.proofs.Bools.{beq-sound}
-use Rattle.logic.proofs.Finite.{every, same, same-sound, agree₁, agree₂, agree₃}
+use Rattle.logic.proofs.Finite.{same, same-sound, agree₁, agree₂, agree₃}
 use Rattle.program.specs.Rule.{RuleOf, Rule, smallest, largest, holds, allHold}
 use Rattle.program.proofs.Rules.{allHold-append}
 use Rattle.flat.specs.Table.{Slot}

@@ -1,52 +1,36 @@
 -- Where no slot holds a constant every row's rule stays with all its literals: by induction on the slots and on the rows. Assumes nothing.
 use mathlib.Core.Path.{_≡_, refl, ap, _∙_}
-use mathlib.Core.Bool.{Bool, true, false, _&&_, cond}
-use mathlib.Core.List.{List, [], _∷_, _++_, map, append-assoc, append-nil}
-use Prim.Native.Nat.{ℕ, zero, suc, _+_, _≤_, _<_}
-use native.Mathlib.Nat.{add-zero, add-suc}
+use mathlib.Core.Bool.{Bool, true, false, _&&_}
+use mathlib.Core.List.{List, [], _∷_, _++_, map, append-assoc}
+use Prim.Native.Nat.{ℕ, _+_, _≤_, _<_}
 use native.Mathlib.Omega.{arith}
 use lib.Dec.{ltb}
-use lib.ListN.{getD, List·getD-eq-default}
-use borrow.Author.Tests.{ltb-true, ltb-false, ne-eqb}
-use Rattle.refusal.proofs.Table.{cases}
+use lib.ListN.{getD}
+use borrow.Author.Tests.{ltb-true, ne-eqb}
 use Rattle.logic.proofs.Bools.{&&-split}
 use Rattle.wire.specs.Sequence.{upTo}
-use Rattle.wire.proofs.Sequence.{length-upTo, getD-upTo, upTo-equal, map-upTo}
+use Rattle.wire.proofs.Sequence.{length-upTo, upTo-equal, map-upTo, upTo-append, getD-upTo-cond}
 use Rattle.program.specs.Rule.{RuleOf}
 use Rattle.flat.specs.Table.{Slot, x, y, L, M}
 use Rattle.flat.specs.Flat.{name, has, names, mapRule, removes}
-use Rattle.table.specs.Shapes.{slotOf, slotNumber, slotsFrom, shapeRule}
-use Rattle.table.specs.OneRule.{decode, filled, allNames, nameIn, madeOf}
+use Rattle.table.specs.Shapes.{slotOf, slotNumber, slotsFrom, shapeRule, Fillable}
+use Rattle.table.specs.OneRule.{falseTerm, trueTerm, decode, filled, ruleIn, allNames, nameIn, madeOf}
 use Rattle.table.proofs.OneRule.{slotNumber-slotOf}
 
 -- A number below the constants' is a name's.
-decode-name : (n : ℕ) → n < 65534 → decode n ≡ name n
-decode-name n h = rw (ne-eqb n 65534 (λ e. omega arith), ne-eqb n 65535 (λ e. omega arith))
+decode-name : (n : ℕ) → n < falseTerm → decode n ≡ name n
+decode-name n h = rw (ne-eqb n falseTerm (λ e. omega arith), ne-eqb n trueTerm (λ e. omega arith))
 
 -- The number of what stands in a slot.
 abbrev numberIn : List ℕ → Slot → ℕ
 numberIn terms s = getD terms (slotNumber s) 0
-
--- ---- the first items of a sequence
-
--- Those of two stretches.
-upTo-append : {S : Type 0} (f : ℕ → S) (m n : ℕ) → upTo f (m + n) ≡ upTo f m ++ upTo (λ j. f (m + j)) n
-unfolding upTo
-upTo-append f m zero = rw (add-zero, append-nil)
-upTo-append f m (suc n) = rw (add-suc, upTo-append f m n, append-assoc)
-
--- The item at k, and 0 behind the last.
-getD-first : (f : ℕ → ℕ) (n k : ℕ) → getD (upTo f n) k 0 ≡ cond (ltb k n) (f k) 0
-getD-first f n k = cases (ltb k n)
-    (λ t. rw t (getD-upTo f n k 0 (ltb-true k n t)))
-    (λ u. rw u (List·getD-eq-default (upTo f n) 0 (rw length-upTo (ltb-false k n u))))
 
 -- ---- names in the slots
 
 module _ (terms : List ℕ) (all : allNames terms ≡ true) where
   -- Each term is below the constants' numbers, so each slot holds a name.
   abbrev low : ℕ → Bool
-  low n = ltb (getD terms n 0) 65534
+  low n = ltb (getD terms n 0) falseTerm
 
   behind-x : (low 1 && (low 2 && low 3)) ≡ true
   behind-x = &&-split (low 0) _ all .1
@@ -73,7 +57,7 @@ module _ (terms : List ℕ) (all : allNames terms ≡ true) where
   names-filled [] = refl
   names-filled (s ∷ l) = rw (filled-name s) (ap (λ ns. numberIn terms s ∷ ns) (names-filled l))
 
-  module _ (s : List ℕ) (named : (j : ℕ) → j < 6 → getD s j 0 < 4) (few : getD s 0 0 + getD s 1 0 + getD s 2 0 ≤ 3) where
+  module _ (s : List ℕ) (ok : Fillable s) where
     -- How many heads, positives and negatives a shape has.
     abbrev H : ℕ
     H = getD s 0 0
@@ -94,7 +78,7 @@ module _ (terms : List ℕ) (all : allNames terms ≡ true) where
     part start count slot e h =
         names-filled (slotsFrom s start count)
         ∙ map-upTo (numberIn terms) (λ j. slotOf (getD s (start + j) 0)) count
-        ∙ upTo-equal _ _ count (λ j l. ap (λ n. getD terms n 0) (slotNumber-slotOf (getD s (start + j) 0) (named (start + j) (omega arith)) ∙ ap (λ i. getD s i 0) (e j)))
+        ∙ upTo-equal _ _ count (λ j l. ap (λ n. getD terms n 0) (slotNumber-slotOf (getD s (start + j) 0) (ok .named (start + j) (omega arith)) ∙ ap (λ i. getD s i 0) (e j)))
 
     -- The heads, then the positives, then the negatives are the numbers in all slots that are used.
     literals-names : upTo number H ++ (upTo (λ j. number (H + j)) P ++ upTo (λ j. number (H + P + j)) N) ≡ upTo number (H + P + N)
@@ -102,7 +86,7 @@ module _ (terms : List ℕ) (all : allNames terms ≡ true) where
 
     -- The rule that is made has all literals of the shape.
     pub made-names : let at : ℕ → ℕ = nameIn s terms (H + P + N) in
-        record { kept = true; heads = H; positives = P; negatives = N; slots = at 0 ∷ at 1 ∷ at 2 ∷ [] } ≡ madeOf (mapRule (filled terms) (shapeRule s))
+        record { kept = true; heads = H; positives = P; negatives = N; slots = at 0 ∷ at 1 ∷ at 2 ∷ [] } ≡ madeOf (ruleIn s terms)
     unfolding madeOf
     made-names =
         rw (
@@ -116,7 +100,7 @@ module _ (terms : List ℕ) (all : allNames terms ≡ true) where
           length-upTo (λ j. number (H + j)) P,
           length-upTo (λ j. number (H + P + j)) N,
           literals-names,
-          getD-first number (H + P + N) 0,
-          getD-first number (H + P + N) 1,
-          getD-first number (H + P + N) 2,
+          getD-upTo-cond number (H + P + N) 0 0,
+          getD-upTo-cond number (H + P + N) 1 0,
+          getD-upTo-cond number (H + P + N) 2 0,
         ))

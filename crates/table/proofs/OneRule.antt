@@ -13,11 +13,11 @@ use Rattle.wire.specs.Sequence.{upTo}
 use Rattle.wire.proofs.Sequence.{length-upTo, map-upTo, upTo-equal}
 use Rattle.program.specs.Rule.{RuleOf}
 use Rattle.program.specs.Image.{ruleBytes, rulesBytes}
-use Rattle.flat.specs.Flat.{Term, constant, name, has, names, mapRule, removes, simplify, fact}
+use Rattle.flat.specs.Flat.{Term, constant, name, has, names, removes, simplify, fact}
 use Rattle.table.specs.declared.Literals.{Literals}
 use Rattle.table.specs.declared.Made.{Made}
-use Rattle.table.specs.Shapes.{slotOf, slotNumber, slotsFrom, shapeRule}
-use Rattle.table.specs.OneRule.{code, decode, filled, added, addedTo, firstThree, madeOf, madeCount, madeBytes}
+use Rattle.table.specs.Shapes.{slotOf, slotNumber, slotsFrom, Fillable}
+use Rattle.table.specs.OneRule.{falseTerm, trueTerm, code, decode, filled, ruleIn, added, addedTo, firstThree, madeOf, madeCount, madeBytes}
 
 -- ---- the terms of numbers
 
@@ -27,10 +27,10 @@ Below n (constant b) = Unit {0}
 Below n (name a) = a < n
 
 -- A term's number gives the term back, if a name is below the constants' numbers.
-pub decode-code : (t : Term) → Below 65534 t → decode (code t) ≡ t
+pub decode-code : (t : Term) → Below falseTerm t → decode (code t) ≡ t
 decode-code (constant false) h = refl
 decode-code (constant true) h = refl
-decode-code (name a) h = rw (ne-eqb a 65534 (λ e. omega arith), ne-eqb a 65535 (λ e. omega arith))
+decode-code (name a) h = rw (ne-eqb a falseTerm (λ e. omega arith), ne-eqb a trueTerm (λ e. omega arith))
 
 pub slotNumber-slotOf : (n : ℕ) → n < 4 → slotNumber (slotOf n) ≡ n
 slotNumber-slotOf zero h = refl
@@ -68,7 +68,7 @@ addedTo-more l removing f n = rw add-one
 
 pub used-added : (l : Literals) (removing term : ℕ) → added l removing term .used ≤ l .used + 1
 used-added l removing term = cases (eqb term removing) (λ t. rw t (omega arith))
-    (λ f. rw f (cases (eqb term 65534) (λ t. rw t (omega arith)) (λ g. rw g (cases (eqb term 65535) (λ t. rw t (omega arith)) (λ h. rw h (omega arith))))))
+    (λ f. rw f (cases (eqb term falseTerm) (λ t. rw t (omega arith)) (λ g. rw g (cases (eqb term trueTerm) (λ t. rw t (omega arith)) (λ h. rw h (omega arith))))))
 
 -- The literals l of a rule, and whether it is removed.
 abbrev pub state : (removed : Bool) → List ℕ → Literals
@@ -83,19 +83,19 @@ pushed (b ∷ c ∷ d ∷ l) a h = absurd (omega arith)
 
 added-state : (b c : Bool) (l : List ℕ) (n : ℕ) → length l < 3
     → added (state b l) (code (constant c)) n ≡ state (b || has c (decode n ∷ [])) (l ++ names (decode n ∷ []))
-added-state b c l n h = cases (eqb n 65534)
-    (λ t. rw (eqb-true n 65534 t) (low c))
-    (λ f. cases (eqb n 65535) (λ t. rw (eqb-true n 65535 t) (high c)) (other c f))
+added-state b c l n h = cases (eqb n falseTerm)
+    (λ t. rw (eqb-true n falseTerm t) (low c))
+    (λ f. cases (eqb n trueTerm) (λ t. rw (eqb-true n trueTerm t) (high c)) (other c f))
   where
-    low : (c : Bool) → added (state b l) (code (constant c)) 65534 ≡ state (b || has c (constant false ∷ [])) (l ++ [])
+    low : (c : Bool) → added (state b l) (code (constant c)) falseTerm ≡ state (b || has c (constant false ∷ [])) (l ++ [])
     low true = rw (or-false, append-nil)
     low false = rw (or-true, append-nil)
 
-    high : (c : Bool) → added (state b l) (code (constant c)) 65535 ≡ state (b || has c (constant true ∷ [])) (l ++ [])
+    high : (c : Bool) → added (state b l) (code (constant c)) trueTerm ≡ state (b || has c (constant true ∷ [])) (l ++ [])
     high true = rw (or-true, append-nil)
     high false = rw (or-false, append-nil)
 
-    other : (c : Bool) → eqb n 65534 ≡ false → eqb n 65535 ≡ false → added (state b l) (code (constant c)) n
+    other : (c : Bool) → eqb n falseTerm ≡ false → eqb n trueTerm ≡ false → added (state b l) (code (constant c)) n
         ≡ state (b || has c (decode n ∷ [])) (l ++ names (decode n ∷ []))
     other true f g = rw (f, g, or-false, pushed l n h, length-append)
     other false f g = rw (f, g, or-false, pushed l n h, length-append)
@@ -113,51 +113,47 @@ addedTo-state b c l f (suc n) h =
 
 -- ---- the whole rule
 
--- The rule of a shape with its slots filled, and the numbers of the terms that fill them.
-abbrev pub ruleIn : (s terms : List ℕ) → RuleOf Term
-ruleIn s terms = mapRule (filled terms) (shapeRule s)
-
+-- The number of the term that fills a slot.
 abbrev slotTerm : (s terms : List ℕ) (start j : ℕ) → ℕ
 slotTerm s terms start j = getD terms (getD s (start + j) 0) 0
 
-module _ (s terms : List ℕ) (named : (j : ℕ) → j < 6 → getD s j 0 < 4) where
+module _ (s terms : List ℕ) (ok : Fillable s) where
   slots-filled : (start count : ℕ) → start + count ≤ 6
       → map (filled terms) (slotsFrom s start count) ≡ upTo (λ j. decode (getD terms (getD s (start + j) 0) 0)) count
   slots-filled start count h =
       map-upTo (filled terms) (λ j. slotOf (getD s (start + j) 0)) count
-      ∙ upTo-equal _ _ count (λ j l. ap (λ n. decode (getD terms n 0)) (slotNumber-slotOf (getD s (start + j) 0) (named (start + j) (omega arith))))
+      ∙ upTo-equal _ _ count (λ j l. ap (λ n. decode (getD terms n 0)) (slotNumber-slotOf (getD s (start + j) 0) (ok .named (start + j) (omega arith))))
 
-  -- The heads, then the positives, then the negatives, where the rule has at most three literals.
-  module _ (few : getD s 0 0 + getD s 1 0 + getD s 2 0 ≤ 3) where
-    part : (b c : Bool) (l : List ℕ) (start count : ℕ) → start + count ≤ 6 → length l + count ≤ 3
-        → addedTo (state b l) (code (constant c)) (slotTerm s terms start) count
-        ≡ state (b || has c (map (filled terms) (slotsFrom s start count))) (l ++ names (map (filled terms) (slotsFrom s start count)))
-    part b c l start count h k = rw (slots-filled start count h) (addedTo-state b c l (slotTerm s terms start) count k)
+  -- The heads, then the positives, then the negatives.
+  part : (b c : Bool) (l : List ℕ) (start count : ℕ) → start + count ≤ 6 → length l + count ≤ 3
+      → addedTo (state b l) (code (constant c)) (slotTerm s terms start) count
+      ≡ state (b || has c (map (filled terms) (slotsFrom s start count))) (l ++ names (map (filled terms) (slotsFrom s start count)))
+  part b c l start count h k = rw (slots-filled start count h) (addedTo-state b c l (slotTerm s terms start) count k)
 
-    few-names : (start count : ℕ) → length (names (map (filled terms) (slotsFrom s start count))) ≤ count
-    few-names start count =
-        let ts : List Term = map (filled terms) (slotsFrom s start count) in
-        omega (arith, length-names ts, length-map (slotsFrom s start count) (filled terms), length-upTo (λ j. slotOf (getD s (start + j) 0)) count)
+  few-names : (start count : ℕ) → length (names (map (filled terms) (slotsFrom s start count))) ≤ count
+  few-names start count =
+      let ts : List Term = map (filled terms) (slotsFrom s start count) in
+      omega (arith, length-names ts, length-map (slotsFrom s start count) (filled terms), length-upTo (λ j. slotOf (getD s (start + j) 0)) count)
 
-    pub heads-few : length (names (ruleIn s terms .heads)) ≤ getD s 0 0
-    heads-few = few-names 3 (getD s 0 0)
+  pub heads-few : length (names (ruleIn s terms .heads)) ≤ getD s 0 0
+  heads-few = few-names 3 (getD s 0 0)
 
-    pub positives-few : length (names (ruleIn s terms .positives)) ≤ getD s 1 0
-    positives-few = few-names (3 + getD s 0 0) (getD s 1 0)
+  pub positives-few : length (names (ruleIn s terms .positives)) ≤ getD s 1 0
+  positives-few = few-names (3 + getD s 0 0) (getD s 1 0)
 
-    pub heads-added : addedTo (state false []) 65535 (slotTerm s terms 3) (getD s 0 0) ≡ state (has true (ruleIn s terms .heads)) (names (ruleIn s terms .heads))
-    heads-added = part false true [] 3 (getD s 0 0) (omega arith) (omega arith)
+  pub heads-added : addedTo (state false []) trueTerm (slotTerm s terms 3) (getD s 0 0) ≡ state (has true (ruleIn s terms .heads)) (names (ruleIn s terms .heads))
+  heads-added = part false true [] 3 (getD s 0 0) (omega arith) (omega arith)
 
-    pub positives-added : addedTo (state (has true (ruleIn s terms .heads)) (names (ruleIn s terms .heads))) 65534 (slotTerm s terms (3 + getD s 0 0)) (getD s 1 0)
-        ≡ state (has true (ruleIn s terms .heads) || has false (ruleIn s terms .positives)) (names (ruleIn s terms .heads) ++ names (ruleIn s terms .positives))
-    positives-added = part (has true (ruleIn s terms .heads)) false (names (ruleIn s terms .heads)) (3 + getD s 0 0) (getD s 1 0) (omega arith) (omega (arith, heads-few))
+  pub positives-added : addedTo (state (has true (ruleIn s terms .heads)) (names (ruleIn s terms .heads))) falseTerm (slotTerm s terms (3 + getD s 0 0)) (getD s 1 0)
+      ≡ state (has true (ruleIn s terms .heads) || has false (ruleIn s terms .positives)) (names (ruleIn s terms .heads) ++ names (ruleIn s terms .positives))
+  positives-added = part (has true (ruleIn s terms .heads)) false (names (ruleIn s terms .heads)) (3 + getD s 0 0) (getD s 1 0) (omega arith) (omega (arith, heads-few))
 
-    pub negatives-added : addedTo (state (has true (ruleIn s terms .heads) || has false (ruleIn s terms .positives)) (names (ruleIn s terms .heads) ++ names (ruleIn s terms .positives))) 65535
-        (slotTerm s terms (3 + getD s 0 0 + getD s 1 0)) (getD s 2 0)
-        ≡ state (removes (ruleIn s terms)) (names (ruleIn s terms .heads) ++ names (ruleIn s terms .positives) ++ names (ruleIn s terms .negatives))
-    negatives-added =
-        part (has true (ruleIn s terms .heads) || has false (ruleIn s terms .positives)) true (names (ruleIn s terms .heads) ++ names (ruleIn s terms .positives)) (3 + getD s 0 0 + getD s 1 0) (getD s 2 0)
-        (omega arith) (rw length-append (omega (arith, heads-few, positives-few)))
+  pub negatives-added : addedTo (state (has true (ruleIn s terms .heads) || has false (ruleIn s terms .positives)) (names (ruleIn s terms .heads) ++ names (ruleIn s terms .positives))) trueTerm
+      (slotTerm s terms (3 + getD s 0 0 + getD s 1 0)) (getD s 2 0)
+      ≡ state (removes (ruleIn s terms)) (names (ruleIn s terms .heads) ++ names (ruleIn s terms .positives) ++ names (ruleIn s terms .negatives))
+  negatives-added =
+      part (has true (ruleIn s terms .heads) || has false (ruleIn s terms .positives)) true (names (ruleIn s terms .heads) ++ names (ruleIn s terms .positives)) (3 + getD s 0 0 + getD s 1 0) (getD s 2 0)
+      (omega arith) (rw length-append (omega (arith, heads-few, positives-few)))
 
 -- What the three parts of a rule leave is the rule with its constants gone.
 abbrev finish : (a b c : Literals) → Made
@@ -187,7 +183,7 @@ length-ruleIn s terms = (count 3 (getD s 0 0), count (3 + getD s 0 0) (getD s 1 
     count start n = length-map (slotsFrom s start n) (filled terms) ∙ length-upTo (λ j. slotOf (getD s (start + j) 0)) n
 
 -- A fact is its one head.
-pub fact-made : (n : ℕ) → let l = added (state false []) 65535 n in
+pub fact-made : (n : ℕ) → let l = added (state false []) trueTerm n in
     record { kept = l .kept; heads = l .used; positives = 0; negatives = 0; slots = l .slots } ≡ madeOf (fact (decode n))
 unfolding madeOf
 fact-made n = rw (added-state false true [] n (omega arith)) (simp (or-false, append-nil))

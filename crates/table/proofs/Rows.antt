@@ -12,7 +12,7 @@ use Rattle.logic.proofs.Bools.{&&-split}
 use Rattle.wire.specs.Sequence.{upTo}
 use Rattle.theory.specs.Image.{kindOf}
 use Rattle.flat.specs.Table.{rows, labelCount}
-use Rattle.table.specs.Shapes.{shapes, kinds, firstRow, rowCount, labelsOf, shapeRule, kindShape}
+use Rattle.table.specs.Shapes.{shapes, firstRow, rowCount, labelsOf, shapeRule, kindShape, KindIn, Fillable}
 
 -- What holds at each of the numbers 0 to 6 holds at each number below 7.
 kinds-cases : (P : ℕ → Type 0) → P 0 → P 1 → P 2 → P 3 → P 4 → P 5 → P 6 → (k : ℕ) → k < 7 → P k
@@ -44,14 +44,12 @@ all-at p zero t k h = absurd (not-suc-le-zero h)
 all-at p (suc n) t zero h = &&-split (p zero) (all (λ i. p (suc i)) n) t .0
 all-at p (suc n) t (suc k) h = all-at (λ i. p (suc i)) n (&&-split (p zero) (all (λ i. p (suc i)) n) t .1) k (le-of-suc-le-suc h)
 
--- A row has at most three literals,
-pub shape-literals : (i : ℕ) → i < 14 → let s = getD shapes i [] in getD s 0 0 + getD s 1 0 + getD s 2 0 ≤ 3
-shape-literals i h = leb-true _ _ (all-at (λ i. let s = getD shapes i [] in leb (getD s 0 0 + getD s 1 0 + getD s 2 0) 3) 14 refl i h)
-
--- and its slots name x, y, L or M.
-pub shape-slots : (i : ℕ) → i < 14 → (j : ℕ) → j < 6 → getD (getD shapes i []) j 0 < 4
-shape-slots i h j l =
-    ltb-true _ _ (all-at (λ j. ltb (getD (getD shapes i []) j 0) 4) 6 (all-at (λ i. all (λ j. ltb (getD (getD shapes i []) j 0) 4) 6) 14 refl i h) j l)
+-- A row has at most three literals, and its slots name x, y, L or M.
+pub shape-fillable : (i : ℕ) → i < 14 → Fillable (getD shapes i [])
+shape-fillable i h = record {
+  named = λ j l. ltb-true _ _ (all-at (λ j. ltb (getD (getD shapes i []) j 0) 4) 6 (all-at (λ i. all (λ j. ltb (getD (getD shapes i []) j 0) 4) 6) 14 refl i h) j l);
+  few = leb-true _ _ (all-at (λ i. let s = getD shapes i [] in leb (getD s 0 0 + getD s 1 0 + getD s 2 0) 3) 14 refl i h);
+}
 
 -- The rows of a kind stand in the table.
 pub rows-within : (k : ℕ) → k < 7 → firstRow k + rowCount k ≤ 14
@@ -61,17 +59,15 @@ rows-within k h = leb-true _ _ (all-at (λ k. leb (firstRow k + rowCount k) 14) 
 pub labels-few : (k : ℕ) → k < 7 → labelsOf k ≤ 2
 labels-few k h = leb-true _ _ (all-at (λ k. leb (labelsOf k) 2) 7 refl k h)
 
--- Row j of a kind as the code reads it, from a table and an index that are those of the definitions.
-module _ (table index : List (List ℕ)) (kind j : ℕ) (t : table ≡ shapes) (i : index ≡ kinds) (known : kind < 7) (h : j < getD (getD index kind []) 1 0) where
+-- Row j of a kind as the code reads it.
+module _ (table index : List (List ℕ)) (kind : ℕ) (ok : KindIn table index kind) (j : ℕ) (h : j < getD (getD index kind []) 1 0) where
   pub row-within : getD (getD index kind []) 0 0 + j < 14
   row-within =
-      let l : j < rowCount kind = rw i at h in
-      rw i (omega (arith, rows-within kind known))
+      let l : j < rowCount kind = rw (ok .counts) at h in
+      rw (ok .counts) (omega (arith, rows-within kind (ok .known)))
 
   pub row-read : getD table (getD (getD index kind []) 0 0 + j) [] ≡ kindShape kind j
-  row-read = rw (t, i)
+  row-read = rw (ok .rows, ok .counts)
 
-  -- It has at most three literals, and its slots name x, y, L or M.
-  pub row-good : let s = getD table (getD (getD index kind []) 0 0 + j) [] in
-      (getD s 0 0 + getD s 1 0 + getD s 2 0 ≤ 3) × ((n : ℕ) → n < 6 → getD s n 0 < 4)
-  row-good = rw t (shape-literals _ row-within, shape-slots _ row-within)
+  pub row-fillable : Fillable (getD table (getD (getD index kind []) 0 0 + j) [])
+  row-fillable = rw (ok .rows) (shape-fillable _ row-within)

@@ -1,4 +1,4 @@
--- One rule as the code makes it: terms as numbers, and literals added one by one.
+-- One rule as the code makes it: terms as numbers, and literals added one by one. Notes on the code, which no public promise names.
 use mathlib.Core.Bool.{Bool, true, false, not, _&&_, cond}
 use mathlib.Core.List.{List, [], _∷_}
 use Prim.Native.Nat.{ℕ, zero, suc, _+_}
@@ -7,28 +7,42 @@ use lib.ListN.{getD, length, set}
 use Rattle.program.specs.Rule.{RuleOf}
 use Rattle.program.specs.Image.{literals, tenBytes}
 use Rattle.flat.specs.Table.{Slot}
-use Rattle.flat.specs.Flat.{Term, constant, name, removes, reduce}
+use Rattle.flat.specs.Flat.{Term, constant, name, mapRule, removes, reduce}
 use Rattle.table.specs.declared.Literals.{Literals}
 use Rattle.table.specs.declared.Made.{Made}
-use Rattle.table.specs.Shapes.{slotNumber}
+use Rattle.table.specs.Shapes.{slotNumber, shapeRule}
 
--- The number of a term: a name's own, and two numbers above for the constants.
+-- The numbers of the two constants, above every name's.
+abbrev pub falseTerm : ℕ
+falseTerm = 65534
+
+abbrev pub trueTerm : ℕ
+trueTerm = 65535
+
+-- The number of a term: a name's is its own.
 abbrev pub code : Term → ℕ
-code (constant false) = 65534
-code (constant true) = 65535
+code (constant false) = falseTerm
+code (constant true) = trueTerm
 code (name a) = a
 
 -- The term of a number.
 abbrev pub decode : ℕ → Term
-decode n = cond (eqb n 65534) (constant false) (cond (eqb n 65535) (constant true) (name n))
+decode n = cond (eqb n falseTerm) (constant false) (cond (eqb n trueTerm) (constant true) (name n))
 
 -- What stands in the slots where x, y, L and M have these numbers.
 abbrev pub filled : List ℕ → Slot → Term
 filled terms s = decode (getD terms (slotNumber s) 0)
 
+-- The rule of a row with its slots filled.
+abbrev pub ruleIn : (s terms : List ℕ) → RuleOf Term
+ruleIn s terms = mapRule (filled terms) (shapeRule s)
+
 -- Are the terms of x, y, L and M all names?
 abbrev pub allNames : List ℕ → Bool
-allNames terms = ltb (getD terms 0 0) 65534 && (ltb (getD terms 1 0) 65534 && (ltb (getD terms 2 0) 65534 && ltb (getD terms 3 0) 65534))
+allNames terms = isName 0 && (isName 1 && (isName 2 && isName 3))
+  where
+    isName : ℕ → Bool
+    isName j = ltb (getD terms j 0) falseTerm
 
 -- What stands in slot j of a rule of a shape that uses so many slots, where every term is a name: 0 where it is unused.
 abbrev pub nameIn : (s terms : List ℕ) → (used j : ℕ) → ℕ
@@ -38,8 +52,8 @@ nameIn s terms used j = cond (ltb j used) (getD terms (getD s (3 + j) 0) 0) 0
 abbrev pub added : Literals → (removing term : ℕ) → Literals
 added l removing term =
     cond (eqb term removing) (record { kept = false; used = l .used; slots = l .slots })
-    (cond (eqb term 65534) l
-    (cond (eqb term 65535) l (record { kept = l .kept; used = l .used + 1; slots = set (l .slots) (l .used) term })))
+    (cond (eqb term falseTerm) l
+    (cond (eqb term trueTerm) l (record { kept = l .kept; used = l .used + 1; slots = set (l .slots) (l .used) term })))
 
 -- The terms f 0, f 1, .. and so on added: n literals more.
 unfoldable pub addedTo : Literals → (removing : ℕ) → (ℕ → ℕ) → (n : ℕ) → Literals

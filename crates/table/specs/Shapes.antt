@@ -1,7 +1,8 @@
--- The rule table in numbers, as the code has it: a row for each rule, and where the rows of each kind stand.
+-- The rule table in numbers, as the code has it: a row for each rule, and where the rows of each kind stand. Notes on the code, which no public promise names.
+use mathlib.Core.Path.{_≡_}
 use mathlib.Core.Bool.{cond}
 use mathlib.Core.List.{List, [], _∷_}
-use Prim.Native.Nat.{ℕ, _+_}
+use Prim.Native.Nat.{ℕ, _+_, _≤_, _<_}
 use lib.Dec.{eqb}
 use lib.ListN.{getD}
 use Rattle.wire.specs.Sequence.{upTo}
@@ -49,6 +50,20 @@ labelsIn index k = getD (getD index k []) 2 0
 
 abbrev pub labelsOf : (kind : ℕ) → ℕ
 labelsOf k = labelsIn kinds k
+
+-- A table and an index of the kinds are these, and the kind is one of theirs.
+pub record KindIn (table index : List (List ℕ)) (kind : ℕ) : Type 0 where
+  pub rows : table ≡ shapes
+  pub counts : index ≡ kinds
+  pub known : kind < 7
+
+-- A row that can be filled: its slots name x, y, L or M, and it has at most three literals.
+abbrev pub Named : List ℕ → Type 0
+Named s = (j : ℕ) → j < 6 → getD s j 0 < 4
+
+pub record Fillable (s : List ℕ) : Type 0 where
+  pub named : Named s
+  pub few : getD s 0 0 + getD s 1 0 + getD s 2 0 ≤ 3
 
 -- The slot of a number, and the number of a slot.
 abbrev pub slotOf : ℕ → Slot

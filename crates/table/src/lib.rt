@@ -1,12 +1,12 @@
 //! The rule table as the code has it, and one rule of it: its slots filled, its constants gone, its bytes written.
 ghost use mathlib.Core.Path.{_≡_};
 ghost use mathlib.Core.Bool.{true, cond};
-ghost use Prim.Native.Nat.{ℕ, _+_, _≤_, _<_};
+ghost use Prim.Native.Nat.{_+_, _≤_, _<_};
 ghost use lib.ListN.{length, getD};
 ghost use Rattle.wire.specs.Wire.{over};
-ghost use Rattle.flat.specs.Flat.{fact, mapRule};
-ghost use Rattle.table.specs.Shapes.{shapes, kinds, shapeRule};
-ghost use Rattle.table.specs.OneRule.{decode, filled, allNames, nameIn, added, addedTo, madeOf, madeBytes};
+ghost use Rattle.flat.specs.Flat.{fact};
+ghost use Rattle.table.specs.Shapes.{shapes, kinds, Named, Fillable};
+ghost use Rattle.table.specs.OneRule.{decode, ruleIn, allNames, nameIn, added, addedTo, madeOf, madeBytes};
 
 // What may stand in a slot: the terms x of left and y of right, the node's label L, and M, the label for the negation of right.
 const X: usize = 0;
@@ -117,7 +117,7 @@ fn add_slots(
     start: usize,
     count: usize,
 ) -> Literals
-    requires { ⌜ (literals .used + count ≤ 3) × (start + count ≤ 6) × ((j : ℕ) → j < 6 → getD (now shape) j 0 < 4) ⌝ }
+    requires { ⌜ (literals .used + count ≤ 3) × (start + count ≤ 6) × Named (now shape) ⌝ }
     ensures { λ r. ⌜ r ≡ addedTo literals removing (λ j. getD (now (terms .entry)) (getD (now (shape .entry)) (start + j) 0) 0) count ⌝ }
 {
     let mut all = literals;
@@ -139,7 +139,7 @@ pub fn all_names(terms: &[usize; 4]) -> bool
 
 // What stands in slot j of a rule of a shape that uses so many slots, where every term is a name.
 fn name_in(shape: &[usize; 6], terms: &[usize; 4], used: usize, j: usize) -> usize
-    requires { ⌜ (j < 3) × ((i : ℕ) → i < 6 → getD (now shape) i 0 < 4) ⌝ }
+    requires { ⌜ (j < 3) × Named (now shape) ⌝ }
     ensures { λ r. ⌜ r ≡ nameIn (now (shape .entry)) (now (terms .entry)) used j ⌝ }
 {
     if j < used { terms[shape[3 + j]] } else { 0 }
@@ -147,9 +147,9 @@ fn name_in(shape: &[usize; 6], terms: &[usize; 4], used: usize, j: usize) -> usi
 
 // The rule of a shape, where the terms of x, y, L and M are all names: it stays with all its literals.
 fn make_of_names(shape: &[usize; 6], terms: &[usize; 4]) -> Made
-    requires { ⌜ (getD (now shape) 0 0 + getD (now shape) 1 0 + getD (now shape) 2 0 ≤ 3) × ((j : ℕ) → j < 6 → getD (now shape) j 0 < 4) ⌝ }
+    requires { ⌜ Fillable (now shape) ⌝ }
     requires { ⌜ allNames (now terms) ≡ true ⌝ }
-    ensures { λ r. ⌜ r ≡ madeOf (mapRule (filled (now (terms .entry))) (shapeRule (now (shape .entry)))) ⌝ }
+    ensures { λ r. ⌜ r ≡ madeOf (ruleIn (now (shape .entry)) (now (terms .entry))) ⌝ }
 {
     let heads = shape[0];
     let positives = shape[1];
@@ -169,21 +169,10 @@ fn make_of_names(shape: &[usize; 6], terms: &[usize; 4]) -> Made
     }
 }
 
-// The rule of a shape, where x, y, L and M have these terms, by the straight way where no constant is among them.
-pub fn make(shape: &[usize; 6], terms: &[usize; 4]) -> Made
-    requires { ⌜ (getD (now shape) 0 0 + getD (now shape) 1 0 + getD (now shape) 2 0 ≤ 3) × ((j : ℕ) → j < 6 → getD (now shape) j 0 < 4) ⌝ }
-    ensures { λ r. ⌜ r ≡ madeOf (mapRule (filled (now (terms .entry))) (shapeRule (now (shape .entry)))) ⌝ }
-{
-    if all_names(terms) {
-        return make_of_names(shape, terms);
-    }
-    make_of_terms(shape, terms)
-}
-
 // The rule of a shape, its literals added one by one, whatever the terms.
 fn make_of_terms(shape: &[usize; 6], terms: &[usize; 4]) -> Made
-    requires { ⌜ (getD (now shape) 0 0 + getD (now shape) 1 0 + getD (now shape) 2 0 ≤ 3) × ((j : ℕ) → j < 6 → getD (now shape) j 0 < 4) ⌝ }
-    ensures { λ r. ⌜ r ≡ madeOf (mapRule (filled (now (terms .entry))) (shapeRule (now (shape .entry)))) ⌝ }
+    requires { ⌜ Fillable (now shape) ⌝ }
+    ensures { λ r. ⌜ r ≡ madeOf (ruleIn (now (shape .entry)) (now (terms .entry))) ⌝ }
 {
     let heads = shape[0];
     let positives = shape[1];
@@ -203,6 +192,17 @@ fn make_of_terms(shape: &[usize; 6], terms: &[usize; 4]) -> Made
         negatives: c.used - b.used,
         slots,
     }
+}
+
+// The rule of a shape, where x, y, L and M have these terms, by the straight way where no constant is among them.
+pub fn make(shape: &[usize; 6], terms: &[usize; 4]) -> Made
+    requires { ⌜ Fillable (now shape) ⌝ }
+    ensures { λ r. ⌜ r ≡ madeOf (ruleIn (now (shape .entry)) (now (terms .entry))) ⌝ }
+{
+    if all_names(terms) {
+        return make_of_names(shape, terms);
+    }
+    make_of_terms(shape, terms)
 }
 
 // How many rules stay of one that was made.

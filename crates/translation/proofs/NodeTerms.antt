@@ -8,25 +8,25 @@ use native.Mathlib.Decide.{le-ind}
 use native.Mathlib.Numerals.{add-one}
 use native.Mathlib.Omega.{arith}
 use lib.Dec.{eqb, ltb}
-use lib.ListN.{getD, length, take, length-map, List·getD-append, List·getD-map}
+use lib.ListN.{getD, length, length-map, List·getD-append, List·getD-map}
 use lib.Seq.{getD-take}
 use borrow.Author.Tests.{ltb-true}
-use Rattle.refusal.specs.Limits.{mostB}
+use Rattle.refusal.specs.Limits.{mostAtoms, mostNodes, mostB}
 use Rattle.logic.proofs.Bools.{&&-split}
 use Rattle.theory.specs.Book.{Kind, falseKind, trueKind, atomKind, notKind, andKind, orKind, impliesKind, leftLimit, rightLimit}
 use Rattle.theory.specs.Image.{nodeIn}
 use Rattle.flat.specs.Table.{Slot, x, y, L, M, rows, labelCount}
 use Rattle.flat.specs.Flat.{Term, constant, name, fill, instances, termAt, nodeRules, termOf, term}
 use Rattle.table.specs.Shapes.{kinds, labelsIn}
-use Rattle.table.specs.OneRule.{code, decode, filled}
+use Rattle.table.specs.OneRule.{falseTerm, code, decode, filled}
 use Rattle.table.proofs.Rows.{labels-count, labels-few}
 use Rattle.table.proofs.OneRule.{Below, decode-code}
-use Rattle.translation.specs.Turns.{Nodes, nextTo, termsTo, slotTerms, kindRules}
+use Rattle.translation.specs.Turns.{Nodes, nextTo, termsTo, slotTerms, kindRules, NumberedTo}
 use Rattle.translation.proofs.Turns.{nextTo-none, nextTo-more, termsTo-none, termsTo-more, length-termsTo}
 
 -- ---- by kind
 
-limits-small : (A k : ℕ) (kind : Kind) → A ≤ 1024 → k < 1024 → (leftLimit A k kind ≤ 1024) × (rightLimit k kind ≤ 1024)
+limits-small : (A k : ℕ) (kind : Kind) → A ≤ mostAtoms → k < mostNodes → (leftLimit A k kind ≤ mostNodes) × (rightLimit k kind ≤ mostNodes)
 limits-small A k falseKind h l = omega arith
 limits-small A k trueKind h l = omega arith
 limits-small A k atomKind h l = omega arith
@@ -100,7 +100,7 @@ module _ (A : ℕ) (s : List ℕ) (N : ℕ) (ok : Nodes A s N) where
       (ltb-true _ _ (fit .0), ltb-true _ _ (fit .1))
 
   -- Operands are below the scratch's length.
-  pub operands-small : (k : ℕ) → k < N → (nodeIn s k .left < 1024) × (nodeIn s k .right < 1024)
+  pub operands-small : (k : ℕ) → k < N → (nodeIn s k .left < mostNodes) × (nodeIn s k .right < mostNodes)
   operands-small k h =
       let small = limits-small A k (nodeIn s k .kind) (ok .few-atoms) (omega (arith, ok .few)) in
       (omega (arith, node-fits k h), omega (arith, node-fits k h))
@@ -144,7 +144,7 @@ getD-within (s ∷ l) zero d e h = refl
 getD-within (s ∷ l) (suc i) d e h = getD-within l i d e (omega arith)
 
 -- The numbers of the first N terms stand in the scratch.
-module _ (A : ℕ) (s : List ℕ) (N : ℕ) (ok : Nodes A s N) (scratch : List ℕ) (numbered : take N scratch ≡ map code (termsTo A s N)) where
+module _ (A : ℕ) (s : List ℕ) (N : ℕ) (ok : Nodes A s N) (scratch : List ℕ) (numbered : NumberedTo A s N scratch) where
   pub scratch-at : (j : ℕ) → j < N → getD scratch j 0 ≡ code (termAt (termsTo A s N) j)
   scratch-at j h =
       sym (getD-take N scratch j 0 h) ∙ ap (λ l. getD l j 0) numbered
@@ -154,10 +154,10 @@ module _ (A : ℕ) (s : List ℕ) (N : ℕ) (ok : Nodes A s N) (scratch : List �
   pub scratch-term : (j : ℕ) → j < N → decode (getD scratch j 0) ≡ termAt (termsTo A s N) j
   scratch-term j h =
       rw (scratch-at j h)
-      (decode-code (termAt (termsTo A s N) j) (below-le (nextTo A s N) 65534 (omega (arith, next-le A s N ok N, ok .few, ok .few-atoms)) (termAt (termsTo A s N) j) (terms-below A s N ok N (omega arith) j)))
+      (decode-code (termAt (termsTo A s N) j) (below-le (nextTo A s N) falseTerm (omega (arith, next-le A s N ok N, ok .few, ok .few-atoms)) (termAt (termsTo A s N) j) (terms-below A s N ok N (omega arith) j)))
 
 -- The terms that fill a node's slots.
-filled-fill : (a b next : ℕ) (left right : Term) → decode a ≡ left → decode b ≡ right → next < 65533
+filled-fill : (a b next : ℕ) (left right : Term) → decode a ≡ left → decode b ≡ right → suc next < falseTerm
     → filled (a ∷ b ∷ next ∷ (next + 1) ∷ []) ≡ fill left right next
 filled-fill a b next left right e f h = fun-ext each
   where
@@ -167,7 +167,7 @@ filled-fill a b next left right e f h = fun-ext each
     each L = decode-code (name next) (omega arith)
     each M = rw add-one (decode-code (name (suc next)) (omega arith))
 
-module _ (A : ℕ) (s : List ℕ) (N : ℕ) (ok : Nodes A s N) (scratch : List ℕ) (numbered : take N scratch ≡ map code (termsTo A s N)) where
+module _ (A : ℕ) (s : List ℕ) (N : ℕ) (ok : Nodes A s N) (scratch : List ℕ) (numbered : NumberedTo A s N scratch) where
   -- The rules of node k, from the numbers in the scratch.
   pub node-rules : (k : ℕ) → k < N
       → let n = nodeIn s k in let next = nextTo A s k in

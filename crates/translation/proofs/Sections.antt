@@ -5,6 +5,7 @@ use mathlib.Core.List.{List, _++_}
 use Prim.Native.Nat.{ℕ, _+_, _≤_}
 use native.Mathlib.Omega.{arith}
 use lib.ListN.{length, length-drop, length-append}
+use Rattle.refusal.specs.Limits.{mostNodes, mostRules}
 use Rattle.refusal.specs.Table.{none}
 use Rattle.theory.specs.Image.{atomCount, nodeCount, rootCount, nodeSection, rootSection, rootIn, bookOf}
 use Rattle.theory.specs.Rows.{theoryRows}
@@ -30,7 +31,7 @@ module _ (t : List ℕ) (ok : none (theoryRows t) ≡ true) where
       record { few = a .header .few-roots; long = rw length-drop (omega (arith, a .header .whole)); below = a .roots-below }
 
   -- A root's term stands in the scratch.
-  pub roots-within : Roots 1024 (rootSection t) (rootCount t)
+  pub roots-within : Roots mostNodes (rootSection t) (rootCount t)
   roots-within =
       let r = roots-accepted in
       record { few = r .few; long = r .long; below = λ i h. omega (arith, r .below i h, nodes-accepted .few) }
@@ -47,7 +48,7 @@ module _ (t : List ℕ) (ok : none (theoryRows t) ≡ true) where
       → ruleTotal t ≡ length (rulesTo (atomCount t) (nodeSection t) (nodeCount t)) + length (factsTo (scratchTerm scratch) (rootSection t) (rootCount t))
   ruleTotal-parts scratch numbered = rw (accepted-rules scratch numbered, length-append)
 
-  pub ruleTotal-le : (scratch : List ℕ) → Numbered t scratch → ruleTotal t ≤ 6400
+  pub ruleTotal-le : (scratch : List ℕ) → Numbered t scratch → ruleTotal t ≤ mostRules
   ruleTotal-le scratch numbered =
       omega (
         arith,

@@ -16,7 +16,7 @@ use Rattle.program.specs.Rule.{RuleOf}
 use Rattle.flat.specs.Table.{Slot, rows, labelCount}
 use Rattle.flat.specs.Flat.{Term, simplify, mapRule, instances, termAt, nodeRules, term, fact, facts, rulesFrom, labelTotal, flat}
 use Rattle.table.specs.Shapes.{rowCount, shapeRule, kindShape}
-use Rattle.table.specs.OneRule.{filled, allNames}
+use Rattle.table.specs.OneRule.{filled, ruleIn, allNames}
 use Rattle.table.proofs.Rows.{shapes-rows}
 use Rattle.table.proofs.Names.{removes-filled}
 use Rattle.translation.specs.Turns.{termsFrom, nodesRules, nextTo, termsTo, rulesTo, factsTo, kindRules, rowsTo, labelBytes, labelsTo}
@@ -107,7 +107,7 @@ module _ (terms : List ℕ) (kind : ℕ) where
   unfolding rowsTo
   rowsTo-none = rw upTo-none
 
-  pub rowsTo-more : (j : ℕ) → rowsTo terms kind (j + 1) ≡ rowsTo terms kind j ++ simplify (mapRule (filled terms) (shapeRule (kindShape kind j)))
+  pub rowsTo-more : (j : ℕ) → rowsTo terms kind (j + 1) ≡ rowsTo terms kind j ++ simplify (ruleIn (kindShape kind j) terms)
   unfolding rowsTo
   rowsTo-more j = rw upTo-more (instances-more (filled terms) (upTo (λ i. shapeRule (kindShape kind i)) j) (shapeRule (kindShape kind j)))
 

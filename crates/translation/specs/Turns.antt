@@ -1,4 +1,4 @@
--- What the loops over an image's nodes and roots have after so many turns.
+-- What the loops over an image's nodes and roots have after so many turns: notes on the code, which no public promise names.
 use mathlib.Core.Path.{_≡_}
 use mathlib.Core.Bool.{true}
 use mathlib.Core.List.{List, [], _∷_, _++_, map}
@@ -71,9 +71,13 @@ kindRules terms kind = instances (filled terms) (rows (kindOf kind))
 unfoldable pub rowsTo : (terms : List ℕ) → (kind j : ℕ) → List Rule
 rowsTo terms kind j = instances (filled terms) (upTo (λ i. shapeRule (kindShape kind i)) j)
 
--- The numbers of all terms of a theory image stand in a scratch.
+-- The numbers of the first N nodes' terms stand in a scratch,
+abbrev pub NumberedTo : (A : ℕ) → List ℕ → (N : ℕ) → (scratch : List ℕ) → Type 0
+NumberedTo A s N scratch = take N scratch ≡ map code (termsTo A s N)
+
+-- and those of all nodes of a theory image.
 abbrev pub Numbered : (t scratch : List ℕ) → Type 0
-Numbered t scratch = take (nodeCount t) scratch ≡ map code (termsTo (atomCount t) (nodeSection t) (nodeCount t))
+Numbered t scratch = NumberedTo (atomCount t) (nodeSection t) (nodeCount t) scratch
 
 -- The bytes of the labels of node k, where the nodes' values stand in a scratch: L holds the node's value, and M that of not its right side.
 abbrev pub labelBytes : (values : List ℕ) → (s : List ℕ) → (k : ℕ) → List ℕ

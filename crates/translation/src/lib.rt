@@ -1,4 +1,4 @@
-//! The translation of a rule book into flat rules.
+//! Measures and writes the flat program of a theory image, and writes the extension of a reading.
 use logic::Value;
 use refusal::Answer;
 ghost use mathlib.Core.Path.{_≡_};
@@ -6,6 +6,7 @@ ghost use mathlib.Core.List.{[], _∷_, map};
 ghost use mathlib.Core.Bool.{true};
 ghost use Prim.Native.Nat.{ℕ, _+_, _*_, _≤_, _<_};
 ghost use lib.ListN.{length, getD, take};
+ghost use Rattle.refusal.specs.Limits.{mostNodes, mostRules};
 ghost use Rattle.refusal.specs.Table.{none, answer};
 ghost use Rattle.refusal.specs.Rows.{readingRows};
 ghost use Rattle.wire.specs.Wire.{over};
@@ -16,9 +17,9 @@ ghost use Rattle.theory.specs.Rows.{theoryRows};
 ghost use Rattle.program.specs.Image.{rulesBytes, imageLength, imageOf};
 ghost use Rattle.flat.specs.Flat.{termOf, flat};
 ghost use Rattle.flat.specs.Extension.{extend as extension};
-ghost use Rattle.table.specs.Shapes.{shapes, kinds};
+ghost use Rattle.table.specs.Shapes.{KindIn};
 ghost use Rattle.table.specs.OneRule.{code};
-ghost use Rattle.translation.specs.Turns.{Nodes, Roots, nextTo, termsTo, rulesTo, factsTo, scratchTerm, slotTerms, kindRules, Numbered, labelsTo};
+ghost use Rattle.translation.specs.Turns.{Nodes, Roots, nextTo, rulesTo, factsTo, scratchTerm, slotTerms, kindRules, NumberedTo, Numbered, labelsTo};
 ghost use Rattle.translation.specs.Outcome.{sizeOf, ruleTotal, translateRows, translated, extendRows, extended};
 
 // The kind of node k, and its left and right.
@@ -80,7 +81,7 @@ fn term_of(kind: usize, left: usize, next: usize) -> usize
 // Numbers the terms of the nodes, those of labels from A upward.
 fn number(nodes: &[u8], count: usize, atoms: usize, terms: &mut [u16])
     requires { ⌜ Nodes atoms (now nodes) count × (count ≤ length (now terms)) ⌝ }
-    ensures { λ _. ⌜ take count (now (terms .exit)) ≡ map code (termsTo atoms (now (nodes .entry)) count) ⌝ }
+    ensures { λ _. ⌜ NumberedTo atoms (now (nodes .entry)) count (now (terms .exit)) ⌝ }
 {
     let kinds = table::kinds();
     let mut next = atoms;
@@ -94,8 +95,8 @@ fn number(nodes: &[u8], count: usize, atoms: usize, terms: &mut [u16])
 }
 
 // The terms of x, y, L and M of node k, whose labels start at `next`.
-fn slot_terms(nodes: &[u8], k: usize, terms: &[u16; 1024], next: usize) -> [usize; 4]
-    requires { ⌜ (k * 6 + 6 ≤ length (now nodes)) × (nodeIn (now nodes) k .left < 1024) × (nodeIn (now nodes) k .right < 1024) × (next < 65536) ⌝ }
+fn slot_terms(nodes: &[u8], k: usize, terms: &[u16; refusal::MOST_NODES], next: usize) -> [usize; 4]
+    requires { ⌜ (k * 6 + 6 ≤ length (now nodes)) × (nodeIn (now nodes) k .left < mostNodes) × (nodeIn (now nodes) k .right < mostNodes) × (next < 65536) ⌝ }
     ensures { λ r. ⌜ r ≡ slotTerms (now (terms .entry)) next (nodeIn (now (nodes .entry)) k) ⌝ }
 {
     let left = left_at(nodes, k);
@@ -115,7 +116,7 @@ fn count_node(
     kind: usize,
     terms: &[usize; 4],
 ) -> usize
-    requires { ⌜ (now table ≡ shapes) × (now index ≡ kinds) × (kind < 7) ⌝ }
+    requires { ⌜ KindIn (now table) (now index) kind ⌝ }
     ensures { λ r. ⌜ r ≡ length (kindRules (now (terms .entry)) kind) ⌝ }
 {
     if table::all_names(terms) {
@@ -131,7 +132,7 @@ fn count_rows(
     kind: usize,
     terms: &[usize; 4],
 ) -> usize
-    requires { ⌜ (now table ≡ shapes) × (now index ≡ kinds) × (kind < 7) ⌝ }
+    requires { ⌜ KindIn (now table) (now index) kind ⌝ }
     ensures { λ r. ⌜ r ≡ length (kindRules (now (terms .entry)) kind) ⌝ }
 {
     let first = index[kind][0];
@@ -147,8 +148,13 @@ fn count_rows(
 }
 
 // How many rules all nodes have.
-fn count_rules(nodes: &[u8], count: usize, atoms: usize, terms: &[u16; 1024]) -> usize
-    requires { ⌜ Nodes atoms (now nodes) count × (take count (now terms) ≡ map code (termsTo atoms (now nodes) count)) ⌝ }
+fn count_rules(
+    nodes: &[u8],
+    count: usize,
+    atoms: usize,
+    terms: &[u16; refusal::MOST_NODES],
+) -> usize
+    requires { ⌜ Nodes atoms (now nodes) count × NumberedTo atoms (now nodes) count (now terms) ⌝ }
     ensures { λ r. ⌜ r ≡ length (rulesTo atoms (now (nodes .entry)) count) ⌝ }
 {
     let table = table::shapes();
@@ -167,8 +173,8 @@ fn count_rules(nodes: &[u8], count: usize, atoms: usize, terms: &[u16; 1024]) ->
 }
 
 // How many facts the roots have.
-fn count_facts(roots: &[u8], count: usize, terms: &[u16; 1024]) -> usize
-    requires { ⌜ Roots 1024 (now roots) count ⌝ }
+fn count_facts(roots: &[u8], count: usize, terms: &[u16; refusal::MOST_NODES]) -> usize
+    requires { ⌜ Roots mostNodes (now roots) count ⌝ }
     ensures { λ r. ⌜ r ≡ length (factsTo (scratchTerm (now (terms .entry))) (now (roots .entry)) count) ⌝ }
 {
     let mut facts = 0;
@@ -190,7 +196,7 @@ fn write_node(
     kind: usize,
     terms: &[usize; 4],
 ) -> usize
-    requires { ⌜ (now table ≡ shapes) × (now index ≡ kinds) × (kind < 7) × (length (rulesBytes (kindRules (now terms) kind)) ≤ length (now out)) ⌝ }
+    requires { ⌜ KindIn (now table) (now index) kind × (length (rulesBytes (kindRules (now terms) kind)) ≤ length (now out)) ⌝ }
     ensures { λ r. ⌜ r ≡ length (rulesBytes (kindRules (now (terms .entry)) kind)) ⌝ }
     ensures { λ _. ⌜ now (out .exit) ≡ over (rulesBytes (kindRules (now (terms .entry)) kind)) (now (out .entry)) ⌝ }
 {
@@ -212,9 +218,9 @@ fn write_nodes(
     nodes: &[u8],
     count: usize,
     atoms: usize,
-    terms: &[u16; 1024],
+    terms: &[u16; refusal::MOST_NODES],
 ) -> usize
-    requires { ⌜ Nodes atoms (now nodes) count × (take count (now terms) ≡ map code (termsTo atoms (now nodes) count)) ⌝ }
+    requires { ⌜ Nodes atoms (now nodes) count × NumberedTo atoms (now nodes) count (now terms) ⌝ }
     requires { ⌜ length (rulesBytes (rulesTo atoms (now nodes) count)) ≤ length (now out) ⌝ }
     ensures { λ r. ⌜ r ≡ length (rulesBytes (rulesTo atoms (now (nodes .entry)) count)) ⌝ }
     ensures { λ _. ⌜ now (out .exit) ≡ over (rulesBytes (rulesTo atoms (now (nodes .entry)) count)) (now (out .entry)) ⌝ }
@@ -235,8 +241,13 @@ fn write_nodes(
 }
 
 // Writes a fact for each root over the start of `out`.
-fn write_facts(out: &mut [u8], roots: &[u8], count: usize, terms: &[u16; 1024]) -> usize
-    requires { ⌜ Roots 1024 (now roots) count ⌝ }
+fn write_facts(
+    out: &mut [u8],
+    roots: &[u8],
+    count: usize,
+    terms: &[u16; refusal::MOST_NODES],
+) -> usize
+    requires { ⌜ Roots mostNodes (now roots) count ⌝ }
     requires { ⌜ length (rulesBytes (factsTo (scratchTerm (now terms)) (now roots) count)) ≤ length (now out) ⌝ }
     ensures { λ r. ⌜ r ≡ length (rulesBytes (factsTo (scratchTerm (now (terms .entry))) (now (roots .entry)) count)) ⌝ }
     ensures { λ _. ⌜ now (out .exit) ≡ over (rulesBytes (factsTo (scratchTerm (now (terms .entry))) (now (roots .entry)) count)) (now (out .entry)) ⌝ }
@@ -253,9 +264,9 @@ fn write_facts(out: &mut [u8], roots: &[u8], count: usize, terms: &[u16; 1024]) 
 }
 
 // K: the rules of the nodes and the facts of the roots.
-fn count(theory: &[u8], terms: &[u16; 1024]) -> usize
+fn count(theory: &[u8], terms: &[u16; refusal::MOST_NODES]) -> usize
     requires { ⌜ (none (theoryRows (now theory)) ≡ true) × Numbered (now theory) (now terms) ⌝ }
-    ensures { λ r. ⌜ (r ≡ ruleTotal (now (theory .entry))) × (r ≤ 6400) ⌝ }
+    ensures { λ r. ⌜ (r ≡ ruleTotal (now (theory .entry))) × (r ≤ mostRules) ⌝ }
 {
     let nodes = theory::nodes(theory);
     let start = 16 + nodes * 6;
@@ -264,7 +275,7 @@ fn count(theory: &[u8], terms: &[u16; 1024]) -> usize
 }
 
 // Writes all rules over the start of `out`: those of the nodes, then a fact for each root.
-fn write_rules(theory: &[u8], out: &mut [u8], terms: &[u16; 1024]) -> usize
+fn write_rules(theory: &[u8], out: &mut [u8], terms: &[u16; refusal::MOST_NODES]) -> usize
     requires { ⌜ (none (theoryRows (now theory)) ≡ true) × Numbered (now theory) (now terms) ⌝ }
     requires { ⌜ length (rulesBytes (flat (bookOf (now theory)) .rules)) ≤ length (now out) ⌝ }
     ensures { λ r. ⌜ r ≡ length (rulesBytes (flat (bookOf (now (theory .entry))) .rules)) ⌝ }
@@ -283,9 +294,15 @@ fn write_rules(theory: &[u8], out: &mut [u8], terms: &[u16; 1024]) -> usize
 }
 
 // Writes the program's image over the start of `out`: the rules, and the header last.
-fn write(theory: &[u8], out: &mut [u8], terms: &[u16; 1024], size: usize, rules: usize)
+fn write(
+    theory: &[u8],
+    out: &mut [u8],
+    terms: &[u16; refusal::MOST_NODES],
+    size: usize,
+    rules: usize,
+)
     requires { ⌜ (none (theoryRows (now theory)) ≡ true) × Numbered (now theory) (now terms) ⌝ }
-    requires { ⌜ (size ≡ sizeOf (now theory)) × (rules ≡ ruleTotal (now theory)) × (rules ≤ 6400) × (imageLength rules ≤ length (now out)) ⌝ }
+    requires { ⌜ (size ≡ sizeOf (now theory)) × (rules ≡ ruleTotal (now theory)) × (rules ≤ mostRules) × (imageLength rules ≤ length (now out)) ⌝ }
     ensures { λ _. ⌜ now (out .exit) ≡ over (imageOf (flat (bookOf (now (theory .entry))))) (now (out .entry)) ⌝ }
 {
     write_rules(theory, &mut out[16..], terms);
@@ -305,7 +322,7 @@ pub fn translate(theory: &[u8], out: &mut [u8]) -> Answer
     if refusal::MOST_B < all {
         return refusal::refuse(14, all);
     }
-    let mut terms = [0u16; 1024];
+    let mut terms = [0u16; refusal::MOST_NODES];
     number(&theory[16..], nodes, atoms, &mut terms);
     let rules = count(theory, &terms);
     let needed = 16 + rules * 10;
@@ -327,8 +344,13 @@ fn put_labels(out: &mut [u8], labels: usize, value: u8, right: u8) -> usize
 }
 
 // Writes the labels of all nodes over the start of `out`, each node's into the unwritten rest; `values` holds the nodes' values.
-fn write_labels(out: &mut [u8], nodes: &[u8], count: usize, values: &[u8; 1024]) -> usize
-    requires { ⌜ (count ≤ 1024) × (count * 6 ≤ length (now nodes)) × ((k : ℕ) → k < count → (getD (now nodes) (k * 6) 0 < 7) × (nodeIn (now nodes) k .right < 1024)) ⌝ }
+fn write_labels(
+    out: &mut [u8],
+    nodes: &[u8],
+    count: usize,
+    values: &[u8; refusal::MOST_NODES],
+) -> usize
+    requires { ⌜ (count ≤ mostNodes) × (count * 6 ≤ length (now nodes)) × ((k : ℕ) → k < count → (getD (now nodes) (k * 6) 0 < 7) × (nodeIn (now nodes) k .right < mostNodes)) ⌝ }
     requires { ⌜ length (labelsTo (now values) (now nodes) count) ≤ length (now out) ⌝ }
     ensures { λ r. ⌜ r ≡ length (labelsTo (now (values .entry)) (now (nodes .entry)) count) ⌝ }
     ensures { λ _. ⌜ now (out .exit) ≡ over (labelsTo (now (values .entry)) (now (nodes .entry)) count) (now (out .entry)) ⌝ }
@@ -350,7 +372,7 @@ fn write_extension(theory: &[u8], reading: &[u8], out: &mut [u8])
     requires { ⌜ (none (theoryRows (now theory)) ≡ true) × (none (readingRows (atomCount (now theory)) (now reading)) ≡ true) × (sizeOf (now theory) ≤ length (now out)) ⌝ }
     ensures { λ _. ⌜ now (out .exit) ≡ over (map number (extension (bookOf (now (theory .entry))) (readingOf (now (reading .entry))))) (now (out .entry)) ⌝ }
 {
-    let mut scratch = [0u8; 1024];
+    let mut scratch = [0u8; refusal::MOST_NODES];
     theory::values(theory, reading, &mut scratch);
     let at = wire::put(out, reading);
     write_labels(

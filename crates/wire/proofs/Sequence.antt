@@ -1,13 +1,17 @@
 -- Laws of the first items of a sequence, by induction on their number.
 use mathlib.Core.Path.{_≡_, refl, _∙_, ap, ap₂}
 use mathlib.Core.Logic.{⊎-elim}
-use mathlib.Core.List.{[], _∷_, _++_, map, map-append}
+use mathlib.Core.Bool.{cond}
+use mathlib.Core.List.{[], _∷_, _++_, map, map-append, append-assoc, append-nil}
 use Prim.Native.Nat.{ℕ, zero, suc, _+_, _<_}
-use native.Mathlib.Nat.{eq-or-lt-of-le}
+use native.Mathlib.Nat.{add-zero, add-suc, eq-or-lt-of-le}
 use native.Mathlib.Numerals.{add-one}
 use native.Mathlib.Omega.{arith}
-use lib.ListN.{length, getD, length-append, List·getD-append}
+use lib.Dec.{ltb}
+use lib.ListN.{length, getD, length-append, List·getD-append, List·getD-eq-default}
 use lib.Seq.{getD-at}
+use borrow.Author.Tests.{ltb-true, ltb-false}
+use Rattle.refusal.proofs.Table.{cases}
 use Rattle.wire.specs.Sequence.{upTo}
 
 module _ {S : Type 0} where
@@ -44,3 +48,16 @@ pub map-upTo : {S T : Type 0} (g : S → T) (f : ℕ → S) (n : ℕ) → map g 
 unfolding upTo
 map-upTo g f zero = refl
 map-upTo g f (suc n) = map-append g (upTo f n) (f n ∷ []) ∙ ap (λ l. l ++ (g (f n) ∷ [])) (map-upTo g f n)
+
+module _ {S : Type 0} (f : ℕ → S) where
+  -- The items of two stretches.
+  pub upTo-append : (m n : ℕ) → upTo f (m + n) ≡ upTo f m ++ upTo (λ j. f (m + j)) n
+  unfolding upTo
+  upTo-append m zero = rw (add-zero, append-nil)
+  upTo-append m (suc n) = rw (add-suc, upTo-append m n, append-assoc)
+
+  -- The item at k, or the default behind the last.
+  pub getD-upTo-cond : (n k : ℕ) (d : S) → getD (upTo f n) k d ≡ cond (ltb k n) (f k) d
+  getD-upTo-cond n k d = cases (ltb k n)
+      (λ t. rw t (getD-upTo f n k d (ltb-true k n t)))
+      (λ u. rw u (List·getD-eq-default (upTo f n) d (rw length-upTo (ltb-false k n u))))

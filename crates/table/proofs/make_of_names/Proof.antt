@@ -33,7 +33,7 @@ returns : tie.Need-returns
 returns c =
     let start = c .before .before .before .before .before .before in
     rw (c .before .before .name-in .ensures, c .before .name-in2 .ensures, c .name-in3 .ensures)
-    (made-names (now (start .args .terms)) (start .pre .1) (now (start .args .shape)) (start .pre .0 .1) (start .pre .0 .0))
+    (made-names (now (start .args .terms)) (start .pre .1) (now (start .args .shape)) (start .pre .0))
 
 pub make-of-names-spec : {M : Type 1} → statement M
 make-of-names-spec =

@@ -8,7 +8,8 @@ use lib.ListN.{length-append}
 use denote.Ref.{now}
 use borrow.Author.Needs.{needs}
 use Rattle.flat.specs.Flat.{has, names, removes}
-use Rattle.table.proofs.OneRule.{state, ruleIn, heads-few, positives-few, heads-added, positives-added, negatives-added, finish-parts}
+use Rattle.table.specs.OneRule.{ruleIn}
+use Rattle.table.proofs.OneRule.{state, heads-few, positives-few, heads-added, positives-added, negatives-added, finish-parts}
 use Rattle.table.proofs.make_of_terms.Statement.{statement}
 use Rattle.table.proofs.make_of_terms.Tie as tie
 
@@ -27,21 +28,21 @@ add-add-slots c = search needs
 -- the literals after each part
 heads-are : (c : tie.After-add-slots) → let start = c .before .before .before in let r = ruleIn (now (start .args .shape)) (now (start .args .terms)) in
     c .add-slots .result ≡ state (has true (r .heads)) (names (r .heads))
-heads-are c = let start = c .before .before .before in c .add-slots .ensures ∙ heads-added (now (start .args .shape)) (now (start .args .terms)) (start .pre .1) (start .pre .0)
+heads-are c = let start = c .before .before .before in c .add-slots .ensures ∙ heads-added (now (start .args .shape)) (now (start .args .terms)) (start .pre)
 
 positives-are : (c : tie.After-add-slots2) → let start = c .before .before .before .before in let r = ruleIn (now (start .args .shape)) (now (start .args .terms)) in
     c .add-slots2 .result ≡ state (has true (r .heads) || has false (r .positives)) (names (r .heads) ++ names (r .positives))
-positives-are c = let start = c .before .before .before .before in c .add-slots2 .ensures ∙ rw (heads-are (c .before)) (positives-added (now (start .args .shape)) (now (start .args .terms)) (start .pre .1) (start .pre .0))
+positives-are c = let start = c .before .before .before .before in c .add-slots2 .ensures ∙ rw (heads-are (c .before)) (positives-added (now (start .args .shape)) (now (start .args .terms)) (start .pre))
 
 negatives-are : (c : tie.After-add-slots3) → let start = c .before .before .before .before .before .before in let r = ruleIn (now (start .args .shape)) (now (start .args .terms)) in
     c .add-slots3 .result ≡ state (removes r) (names (r .heads) ++ names (r .positives) ++ names (r .negatives))
-negatives-are c = let start = c .before .before .before .before .before .before in c .add-slots3 .ensures ∙ rw (positives-are (c .before .before)) (negatives-added (now (start .args .shape)) (now (start .args .terms)) (start .pre .1) (start .pre .0))
+negatives-are c = let start = c .before .before .before .before .before .before in c .add-slots3 .ensures ∙ rw (positives-are (c .before .before)) (negatives-added (now (start .args .shape)) (now (start .args .terms)) (start .pre))
 
 add-slots-requires-2 : tie.Need-add-slots-requires-2
 add-slots-requires-2 c κs =
     let start = c .before .before .before in
     let s = now (start .args .shape) in
-    (rw (heads-are c) (omega (arith, heads-few s (now (start .args .terms)) (start .pre .1) (start .pre .0))), omega arith, start .pre .1)
+    (rw (heads-are c) (omega (arith, heads-few s (now (start .args .terms)) (start .pre))), omega arith, start .pre .named)
 
 add-add-slots-2 : tie.Need-add-add-slots-2
 add-add-slots-2 c = search needs
@@ -57,7 +58,7 @@ add-slots-requires-3 c κs =
     let start = c .before .before .before .before .before in
     let s = now (start .args .shape) in
     let t = now (start .args .terms) in
-    (rw (positives-are (c .before), length-append) (omega (arith, heads-few s t (start .pre .1) (start .pre .0), positives-few s t (start .pre .1) (start .pre .0))), omega arith, start .pre .1)
+    (rw (positives-are (c .before), length-append) (omega (arith, heads-few s t (start .pre), positives-few s t (start .pre))), omega arith, start .pre .named)
 
 sub-t12 : tie.Need-sub-t12
 sub-t12 c =

@@ -25,8 +25,8 @@ returns : tie.Need-returns
 returns c =
     let named = c .before in
     let start = named .before .before in
-    ap (λ (l : List (List ℕ)). getD (getD l (start .args .kind) []) 1 0) (start .pre .1)
-    ∙ kindRules-names (now (start .args .terms)) (sym (named .before .all-names .ensures) ∙ named .if1 .taken) (start .args .kind) (start .pre .2)
+    ap (λ (l : List (List ℕ)). getD (getD l (start .args .kind) []) 1 0) (start .pre .counts)
+    ∙ kindRules-names (now (start .args .terms)) (sym (named .before .all-names .ensures) ∙ named .if1 .taken) (start .args .kind) (start .pre .known)
 
 count-rows-requires : tie.Need-count-rows-requires
 count-rows-requires c κs = search needs

@@ -6,10 +6,10 @@ use native.Mathlib.Omega.{arith}
 use lib.ListN.{length, getD, length-append}
 use denote.Ref.{now}
 use borrow.Author.Needs.{needs}
-use Rattle.flat.specs.Flat.{mapRule, simplify}
-use Rattle.table.specs.Shapes.{rowCount, shapeRule, kindShape}
-use Rattle.table.specs.OneRule.{filled, madeCount}
-use Rattle.table.proofs.Rows.{row-within, row-read, row-good}
+use Rattle.flat.specs.Flat.{simplify}
+use Rattle.table.specs.Shapes.{rowCount, kindShape}
+use Rattle.table.specs.OneRule.{ruleIn, madeCount}
+use Rattle.table.proofs.Rows.{row-within, row-read, row-fillable}
 use Rattle.table.proofs.OneRule.{madeCount-madeOf}
 use Rattle.translation.specs.Turns.{rowsTo}
 use Rattle.translation.proofs.Turns.{rowsTo-none, rowsTo-more, rowsTo-all}
@@ -48,7 +48,7 @@ within : (c : tie.In-loop Inv-loop μ-loop) → let start = c .before .before .b
     getD (getD (now (start .args .index)) (start .args .kind) []) 0 0 + c .before .loop .j < 14
 within c =
     let start = c .before .before .before .before in
-    row-within (now (start .args .table)) (now (start .args .index)) (start .args .kind) (c .before .loop .j) (start .pre .0) (start .pre .1) (start .pre .2) (c .loop-test .taken)
+    row-within (now (start .args .table)) (now (start .args .index)) (start .args .kind) (start .pre) (c .before .loop .j) (c .loop-test .taken)
 
 add-make : tie.Need-add-make Inv-loop μ-loop
 add-make c = omega (arith, within c)
@@ -63,20 +63,20 @@ make-requires : tie.Need-make-requires Inv-loop μ-loop
 make-requires c κs =
     let turn = c .before in
     let start = turn .before .before .before .before in
-    row-good _ _ _ (turn .before .loop .j) (start .pre .0) (start .pre .1) (start .pre .2) (turn .loop-test .taken)
+    row-fillable _ _ _ (start .pre) (turn .before .loop .j) (turn .loop-test .taken)
 
 stays-requires : tie.Need-stays-requires Inv-loop μ-loop
 stays-requires c κs = search needs
 
 -- what is counted is what stays of the row's rule
 counted : (c : tie.After-stays Inv-loop μ-loop) → let loop = c .before .before .before .before in let start = loop .before .before .before in
-    c .stays .result ≡ length (simplify (mapRule (filled (now (start .args .terms))) (shapeRule (kindShape (start .args .kind) (loop .loop .j)))))
+    c .stays .result ≡ length (simplify (ruleIn (kindShape (start .args .kind) (loop .loop .j)) (now (start .args .terms))))
 counted c =
     let loop = c .before .before .before .before in
     let start = loop .before .before .before in
-    let row = row-read (now (start .args .table)) (now (start .args .index)) (start .args .kind) (loop .loop .j) (start .pre .0) (start .pre .1) (start .pre .2) (c .before .before .before .loop-test .taken) in
+    let row = row-read (now (start .args .table)) (now (start .args .index)) (start .args .kind) (start .pre) (loop .loop .j) (c .before .before .before .loop-test .taken) in
     c .stays .ensures .0 ∙ ap madeCount (c .before .make .ensures) ∙ madeCount-madeOf _
-    ∙ ap (λ s. length (simplify (mapRule (filled (now (start .args .terms))) (shapeRule s)))) row
+    ∙ ap (λ s. length (simplify (ruleIn s (now (start .args .terms))))) row
 
 add-rules : tie.Need-add-rules Inv-loop μ-loop
 add-rules c = omega (arith, within (c .before .before .before))
@@ -99,8 +99,8 @@ loop-again c =
 returns : tie.Need-returns Inv-loop μ-loop
 returns c =
     let start = c .before .before .before .before in
-    let e : c .before .loop .j ≡ rowCount (start .args .kind) = omega (arith, ap (λ (l : List (List ℕ)). getD (getD l (start .args .kind) []) 1 0) (start .pre .1)) in
-    rw (e, rowsTo-all (now (start .args .terms)) (start .args .kind) (start .pre .2)) at (c .before .loop .inv .0)
+    let e : c .before .loop .j ≡ rowCount (start .args .kind) = omega (arith, ap (λ (l : List (List ℕ)). getD (getD l (start .args .kind) []) 1 0) (start .pre .counts)) in
+    rw (e, rowsTo-all (now (start .args .terms)) (start .args .kind) (start .pre .known)) at (c .before .loop .inv .0)
 
 pub count-rows-spec : {M : Type 1} → statement M
 count-rows-spec =

@@ -48,7 +48,9 @@ slot-terms-requires c κs =
     (omega arith, small .0, small .1, omega (arith, known c))
 
 count-node-requires : tie.Need-count-node-requires Inv-loop μ-loop
-count-node-requires c κs = let start = c .before .before .before .before .before .before .before in (start .before .shapes .ensures, start .kinds .ensures, known (c .before .before .before .before) .row)
+count-node-requires c κs =
+    let tables = c .before .before .before .before .before .before .before in
+    record { rows = tables .before .shapes .ensures; counts = tables .kinds .ensures; known = known (c .before .before .before .before) .row }
 
 -- what is counted are the node's rules, six at most
 counted : (c : tie.After-count-node Inv-loop μ-loop) → let loop = c .before .before .before .before .before .before .before in let start = loop .before .before .before .before in

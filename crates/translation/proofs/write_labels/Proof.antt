@@ -6,6 +6,7 @@ use lib.ListN.{length, getD, take, drop}
 use denote.Ref.{now}
 use borrow.Author.Needs.{needs}
 use lib.Seq.{length-take-le}
+use Rattle.refusal.specs.Limits.{mostNodes}
 use Rattle.wire.specs.Wire.{over}
 use Rattle.wire.proofs.Laws.{Written, written-none, turn-room, turn}
 use Rattle.theory.specs.Image.{nodeIn}
@@ -45,7 +46,7 @@ fits c =
 
 -- its kind has a row, and its right side a value
 known : (c : tie.In-loop Inv-loop μ-loop) → let start = c .before .before .before .before .before in let s = now (start .args .nodes) in let k = c .before .loop .k in
-    (getD s (k * 6) 0 < 7) × (nodeIn s k .right < 1024)
+    (getD s (k * 6) 0 < 7) × (nodeIn s k .right < mostNodes)
 known c = c .before .before .before .before .before .pre .0 .2 (c .before .loop .k) (search needs)
 
 labels-long : (c : tie.In-loop Inv-loop μ-loop) → let start = c .before .before .before .before .before in let s = now (start .args .nodes) in let k = c .before .loop .k in

@@ -8,11 +8,11 @@ use denote.Ref.{now}
 use borrow.Author.Needs.{needs}
 use Rattle.wire.proofs.Laws.{Written, written-none, turn-room, turn}
 use Rattle.program.specs.Image.{rulesBytes}
-use Rattle.flat.specs.Flat.{mapRule, simplify}
-use Rattle.table.specs.Shapes.{rowCount, shapeRule, kindShape}
-use Rattle.table.specs.OneRule.{filled, madeOf, madeBytes}
-use Rattle.table.proofs.Rows.{row-within, row-read, row-good}
-use Rattle.table.proofs.OneRule.{ruleIn, madeOf-few, length-ruleIn, madeBytes-madeOf}
+use Rattle.flat.specs.Flat.{simplify}
+use Rattle.table.specs.Shapes.{rowCount, kindShape, Fillable}
+use Rattle.table.specs.OneRule.{ruleIn, madeOf, madeBytes}
+use Rattle.table.proofs.Rows.{row-within, row-read, row-fillable}
+use Rattle.table.proofs.OneRule.{madeOf-few, length-ruleIn, madeBytes-madeOf}
 use Rattle.translation.specs.Turns.{rowsTo}
 use Rattle.translation.proofs.Turns.{rowsTo-none, rowsTo-more, rowsTo-all}
 use Rattle.translation.proofs.Writing.{bytes-more, bytes-fit}
@@ -52,24 +52,24 @@ within : (c : tie.In-loop Inv-loop μ-loop) → let start = c .before .before .b
     getD (getD (now (start .args .index)) (start .args .kind) []) 0 0 + c .before .loop .j < 14
 within c =
     let start = c .before .before .before .before .before in
-    row-within (now (start .args .table)) (now (start .args .index)) (start .args .kind) (c .before .loop .j) (start .pre .0) (start .pre .1) (start .pre .2) (c .loop-test .taken)
+    row-within (now (start .args .table)) (now (start .args .index)) (start .args .kind) (start .pre .0) (c .before .loop .j) (c .loop-test .taken)
 
 good : (c : tie.In-loop Inv-loop μ-loop) → let start = c .before .before .before .before .before in
     let s = getD (now (start .args .table)) (getD (getD (now (start .args .index)) (start .args .kind) []) 0 0 + c .before .loop .j) [] in
-    (getD s 0 0 + getD s 1 0 + getD s 2 0 ≤ 3) × ((n : ℕ) → n < 6 → getD s n 0 < 4)
+    Fillable s
 good c =
     let start = c .before .before .before .before .before in
-    row-good (now (start .args .table)) (now (start .args .index)) (start .args .kind) (c .before .loop .j) (start .pre .0) (start .pre .1) (start .pre .2) (c .loop-test .taken)
+    row-fillable (now (start .args .table)) (now (start .args .index)) (start .args .kind) (start .pre .0) (c .before .loop .j) (c .loop-test .taken)
 
 -- the row's rule fits behind those written
 fits : (c : tie.In-loop Inv-loop μ-loop) → let start = c .before .before .before .before .before in let t = now (start .args .terms) in let k = start .args .kind in let j = c .before .loop .j in
-    length (rulesBytes (rowsTo t k j)) + length (rulesBytes (simplify (mapRule (filled t) (shapeRule (kindShape k j))))) ≤ length (now (start .args .out))
+    length (rulesBytes (rowsTo t k j)) + length (rulesBytes (simplify (ruleIn (kindShape k j) t))) ≤ length (now (start .args .out))
 fits c =
     let start = c .before .before .before .before .before in
     let t = now (start .args .terms) in
     let k = start .args .kind in
-    let last : c .before .loop .j < rowCount k = omega (arith, ap (λ (l : List (List ℕ)). getD (getD l k []) 1 0) (start .pre .1)) in
-    bytes-fit (rowsTo t k) (λ j. simplify (mapRule (filled t) (shapeRule (kindShape k j)))) (rowsTo-more t k) (c .before .loop .j) (rowCount k) _ last (rw (rowsTo-all t k (start .pre .2)) (start .pre .3))
+    let last : c .before .loop .j < rowCount k = omega (arith, ap (λ (l : List (List ℕ)). getD (getD l k []) 1 0) (start .pre .0 .counts)) in
+    bytes-fit (rowsTo t k) (λ j. simplify (ruleIn (kindShape k j) t)) (rowsTo-more t k) (c .before .loop .j) (rowCount k) _ last (rw (rowsTo-all t k (start .pre .0 .known)) (start .pre .1))
 
 add-make : tie.Need-add-make Inv-loop μ-loop
 add-make c = omega (arith, within c)
@@ -85,13 +85,13 @@ make-requires c κs = good (c .before)
 
 -- what was made is the row's rule
 bytes-are : (c : tie.After-make Inv-loop μ-loop) → let loop = c .before .before .before in let start = loop .before .before .before .before in
-    madeBytes (c .make .result) ≡ rulesBytes (simplify (mapRule (filled (now (start .args .terms))) (shapeRule (kindShape (start .args .kind) (loop .loop .j)))))
+    madeBytes (c .make .result) ≡ rulesBytes (simplify (ruleIn (kindShape (start .args .kind) (loop .loop .j)) (now (start .args .terms))))
 bytes-are c =
     let loop = c .before .before .before in
     let start = loop .before .before .before .before in
     ap madeBytes (c .make .ensures) ∙ madeBytes-madeOf _
-    ∙ ap (λ s. rulesBytes (simplify (mapRule (filled (now (start .args .terms))) (shapeRule s))))
-    (row-read (now (start .args .table)) (now (start .args .index)) (start .args .kind) (loop .loop .j) (start .pre .0) (start .pre .1) (start .pre .2) (c .before .before .loop-test .taken))
+    ∙ ap (λ s. rulesBytes (simplify (ruleIn s (now (start .args .terms)))))
+    (row-read (now (start .args .table)) (now (start .args .index)) (start .args .kind) (start .pre .0) (loop .loop .j) (c .before .before .loop-test .taken))
 
 sub-put-rule : tie.Need-sub-put-rule Inv-loop μ-loop
 sub-put-rule c =
@@ -138,10 +138,10 @@ loop-again c =
     let loop = made .before .before .before in
     let start = loop .before .before .before .before in
     let put = c .before .before .put-rule .ensures in
-    let f = filled (now (start .args .terms)) in
+    let terms = now (start .args .terms) in
     let k = start .args .kind in (
-      rw (bytes-more (rowsTo (now (start .args .terms)) k) (λ j. simplify (mapRule f (shapeRule (kindShape k j)))) (rowsTo-more (now (start .args .terms)) k) (loop .loop .j))
-          (turn (loop .loop .inv .0) (rulesBytes (simplify (mapRule f (shapeRule (kindShape k (loop .loop .j)))))) (fits (made .before .before)) (rw (bytes-are made) at (put .0)) (rw (bytes-are made) at (put .1))),
+      rw (bytes-more (rowsTo terms k) (λ j. simplify (ruleIn (kindShape k j) terms)) (rowsTo-more terms k) (loop .loop .j))
+          (turn (loop .loop .inv .0) (rulesBytes (simplify (ruleIn (kindShape k (loop .loop .j)) terms))) (fits (made .before .before)) (rw (bytes-are made) at (put .0)) (rw (bytes-are made) at (put .1))),
       search needs,
     )
 
@@ -151,9 +151,9 @@ same-length c = search needs
 returns : tie.Need-returns Inv-loop μ-loop
 returns c =
     let start = c .before .before .before .before .before in
-    let e : c .before .loop .j ≡ rowCount (start .args .kind) = omega (arith, ap (λ (l : List (List ℕ)). getD (getD l (start .args .kind) []) 1 0) (start .pre .1)) in
+    let e : c .before .loop .j ≡ rowCount (start .args .kind) = omega (arith, ap (λ (l : List (List ℕ)). getD (getD l (start .args .kind) []) 1 0) (start .pre .0 .counts)) in
     let w = c .before .loop .inv .0 in
-    let all = rowsTo-all (now (start .args .terms)) (start .args .kind) (start .pre .2) in
+    let all = rowsTo-all (now (start .args .terms)) (start .args .kind) (start .pre .0 .known) in
     (rw (e, all) at (w .end), rw (e, all) at (w .bytes))
 
 pub write-node-spec : {M : Type 1} → statement M
