@@ -1,7 +1,7 @@
 -- Laws of sets of atoms: inclusion is an order, pairs (H, T) with H inside T are the readings, and `allSets` has each set. By induction on the lists.
 use mathlib.Core.Path.{_≡_, refl, sym, ap, ap₂, _∙_}
 use mathlib.Core.Logic.{⊎-elim}
-use mathlib.Core.Bool.{Bool, true, false, not, _||_}
+use mathlib.Core.Bool.{Bool, true, false, not, _||_, not-or-self}
 use mathlib.Core.List.{List, [], _∷_, List·Memᴰ, List·Memᴰ·head, List·Memᴰ·tail, List·Memᴰ·cases-cons, List·Memᴰ·not-nil, List·Memᴰ·eq-of-singleton}
 use Prim.Native.Nat.{ℕ, zero, suc}
 use lib.ListN.{length}
@@ -14,10 +14,6 @@ use Rattle.logic.proofs.Bools.{&&-split, &&-join}
 
 -- Inclusion.
 
-within-refl : (t : Bool) → (not t || t) ≡ true
-within-refl true = refl
-within-refl false = refl
-
 within-equal : (h t : Bool) → (not h || t) ≡ true → (not t || h) ≡ true → h ≡ t
 within-equal true true p q = refl
 within-equal true false p q = sym p
@@ -26,7 +22,7 @@ within-equal false false p q = refl
 
 pub inside-refl : (T : Atoms) → inside T T ≡ true
 inside-refl [] = refl
-inside-refl (t ∷ T) = &&-join (within-refl t) (inside-refl T)
+inside-refl (t ∷ T) = &&-join (not-or-self t) (inside-refl T)
 
 pub inside-equal : (H T : Atoms) → inside H T ≡ true → inside T H ≡ true → H ≡ T
 inside-equal [] [] p q = refl

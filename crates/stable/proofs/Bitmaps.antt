@@ -13,11 +13,16 @@ use Rattle.refusal.proofs.Table.{cases}
 use Rattle.wire.specs.Sequence.{upTo}
 use Rattle.wire.proofs.Sequence.{upTo-more, length-upTo, getD-upTo}
 use Rattle.logic.specs.Atoms.{Atoms}
-use Rattle.stable.specs.Subset.{odd}
-use Rattle.stable.specs.Number.{numberOf}
-use Rattle.stable.specs.Bitmap.{bitAt, eightOf}
+use Rattle.logic.specs.AnswerSet.{isAnswerSet}
+use Rattle.theory.specs.Book.{bookFormulas}
+use Rattle.theory.specs.Image.{atomCount, bookOf}
+use Rattle.stable.specs.Image.{Testable}
+use Rattle.stable.specs.Subset.{setOf, odd, candidateOf}
+use Rattle.stable.specs.Number.{numberOf, setOfNumber}
+use Rattle.stable.specs.Bitmap.{bitAt, eightOf, isListed, Listable}
 use Rattle.stable.proofs.Digits.{odd-digit, half-digit}
-use Rattle.stable.proofs.Numbers.{numberOf-lt}
+use Rattle.stable.proofs.Numbers.{length-setOfNumber, numberOf-lt}
+use Rattle.stable.proofs.Candidates.{candidate-accepted, candidateOf-candidate, setOf-candidateOf, length-candidateOf, countTrue-le}
 
 -- Bit j of a set's number says whether atom j is in the set.
 bit-numberOf : (T : Atoms) (j : ℕ) → odd (numberOf T / 2 ^ j) ≡ getD T j false
@@ -61,3 +66,27 @@ module _ (test : ℕ → Bool) (bitmap : List ℕ) (i : ℕ) (fits : i < length 
       let whole : i * 8 + c % 8 ≡ c = omega arith in
       rw (place, getD-set-same bitmap i (eightOf test (i * 8)) 0 fits)
       (bit-numberOf (upTo (λ j. test (i * 8 + j)) 8) (c % 8) ∙ getD-upTo (λ j. test (i * 8 + j)) 8 (c % 8) false (omega arith) ∙ ap test whole))
+
+-- Room of the same lengths will do as well.
+pub listable-kept : {theory candidate reading values candidate₂ reading₂ values₂ : List ℕ} → Listable theory candidate reading values
+    → length candidate₂ ≡ length candidate → length reading₂ ≡ length reading → length values₂ ≡ length values → Listable theory candidate₂ reading₂ values₂
+listable-kept l c r v = record { checked = l .checked; few = l .few; sized = c ∙ l .sized; wide = rw r (l .wide); long = rw v (l .long) }
+
+-- The candidate of a number's set can be tested, and the test says whether that set is listed.
+module _ {theory candidate reading values : List ℕ} (l : Listable theory candidate reading values) (c : ℕ) where
+  abbrev numbered : List ℕ
+  numbered = candidateOf (setOfNumber (length candidate) c)
+
+  length-numbered : length numbered ≡ atomCount theory
+  length-numbered = length-candidateOf (setOfNumber (length candidate) c) ∙ length-setOfNumber _ _ ∙ l .sized
+
+  pub number-testable : Testable false theory numbered
+  number-testable = record {
+    checked = l .checked;
+    accepted = candidate-accepted _ numbered length-numbered (candidateOf-candidate _);
+    few = omega (arith, countTrue-le numbered, length-numbered, l .few);
+  }
+
+  pub number-listed : isAnswerSet (atomCount theory) (bookFormulas (bookOf theory)) (setOf numbered) ≡ isListed theory c
+  unfolding isListed
+  number-listed = ap (isAnswerSet (atomCount theory) (bookFormulas (bookOf theory))) (setOf-candidateOf _ ∙ ap (λ n. setOfNumber n c) (l .sized))

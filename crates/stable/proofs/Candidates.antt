@@ -14,20 +14,17 @@ use Rattle.refusal.specs.Rows.{wrong, countTrue, argumentRows, candidateRows}
 use Rattle.refusal.proofs.Table.{cases}
 use Rattle.refusal.proofs.First.{firstSuch-none}
 use Rattle.logic.specs.Value.{number, ofByte, trueHere}
-use Rattle.logic.specs.Formula.{Reading, readingOf}
+use Rattle.logic.specs.Formula.{readingOf}
 use Rattle.logic.specs.Atoms.{Atoms, mark, reading, hereOf}
-use Rattle.logic.proofs.Values.{ofByte-number}
 use Rattle.logic.proofs.Sets.{inside-refl, hereOf-reading, length-reading}
-use Rattle.stable.specs.Subset.{setOf, bytesOf, candidateOf, size, odd, subset, Candidate, lowered}
+use Rattle.theory.proofs.NodeValues.{readingOf-number}
+use Rattle.stable.specs.Subset.{setOf, candidateOf, odd, subset, Candidate, lowered}
 use Rattle.stable.specs.Number.{setOfNumber}
 use Rattle.stable.proofs.Digits.{digit-odd}
+use Rattle.stable.proofs.Subsets.{size}
 
 pub length-setOf : (bytes : List ℕ) → length (setOf bytes) ≡ length bytes
 length-setOf bytes = length-map (readingOf bytes) trueHere ∙ length-map bytes ofByte
-
-pub readingOf-bytesOf : (I : Reading) → readingOf (bytesOf I) ≡ I
-readingOf-bytesOf [] = refl
-readingOf-bytesOf (v ∷ I) = ap₂ (λ x l. x ∷ l) (ofByte-number v) (readingOf-bytesOf I)
 
 -- What holds of 0 and of 2 holds of a byte that is not wrong.
 candidate-byte : (P : ℕ → Type 0) → P 0 → P 2 → (b : ℕ) → wrong true b ≡ false → P b
@@ -42,7 +39,7 @@ candidate-tail b bytes h i l = h (suc i) (omega arith)
 -- A candidate is the reading of its set, and its bytes 2 are the atoms of the set.
 pub candidate-reading : (bytes : List ℕ) → Candidate bytes → readingOf bytes ≡ reading (setOf bytes) (setOf bytes)
 candidate-reading [] h = refl
-candidate-reading (b ∷ bytes) h = ap₂ (λ x l. x ∷ l)
+candidate-reading (b ∷ bytes) h = ap₂ _∷_
     (candidate-byte (λ b. ofByte b ≡ mark (trueHere (ofByte b)) (trueHere (ofByte b))) refl refl b (h 0 (omega arith)))
     (candidate-reading bytes (candidate-tail b bytes h))
 
@@ -72,7 +69,7 @@ candidateOf-candidate (t ∷ T) (suc i) h = candidateOf-candidate T i (omega ari
 
 pub setOf-candidateOf : (T : Atoms) → setOf (candidateOf T) ≡ T
 unfolding candidateOf
-setOf-candidateOf T = ap hereOf (readingOf-bytesOf (reading T T)) ∙ hereOf-reading T T (inside-refl T)
+setOf-candidateOf T = ap hereOf (readingOf-number (reading T T)) ∙ hereOf-reading T T (inside-refl T)
 
 pub length-candidateOf : (T : Atoms) → length (candidateOf T) ≡ length T
 unfolding candidateOf
@@ -91,7 +88,7 @@ candidateOf-number n c = ap (λ b. b ∷ candidateOf (setOfNumber n (c / 2))) (m
 
 pub lowered-reading : (bytes : List ℕ) (m : ℕ) → readingOf (lowered bytes m) ≡ reading (subset (setOf bytes) m) (setOf bytes)
 unfolding lowered
-lowered-reading bytes m = readingOf-bytesOf (reading (subset (setOf bytes) m) (setOf bytes))
+lowered-reading bytes m = readingOf-number (reading (subset (setOf bytes) m) (setOf bytes))
 
 lowered-cons : (b : ℕ) (bytes : List ℕ) (m : ℕ) → wrong true b ≡ false
     → lowered (b ∷ bytes) m ≡ cond (eqb b 2) ((1 + m % 2) ∷ lowered bytes (m / 2)) (0 ∷ lowered bytes m)

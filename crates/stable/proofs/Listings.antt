@@ -12,7 +12,7 @@ use lib.ListN.{length, getD, length-append, length-map, List·getD-append}
 use lib.Seq.{getD-at}
 use borrow.Author.Tests.{ltb-true, ltb-false, lt-ltb, le-ltb}
 use Rattle.refusal.specs.Limits.{mostListed}
-use Rattle.refusal.specs.Table.{answer, numbered, refused, accepted}
+use Rattle.refusal.specs.Table.{answer, refused, accepted}
 use Rattle.refusal.proofs.Table.{cases}
 use Rattle.wire.specs.Wire.{u16Bytes, over}
 use Rattle.wire.specs.Sequence.{upTo}
@@ -142,15 +142,6 @@ module _ (theory found : List ℕ) (right : (c : ℕ) → c < 2 ^ atomCount theo
 
   pub found-count : length (passing (bitAt found) (2 ^ atomCount theory)) ≡ length (setsOf theory)
   found-count = ap length found-numbers ∙ length-map (setsOf theory) numberOf
-
--- The listing's rows have numbers of their own.
-pub numbered-setsRows : (theory out : List ℕ) → numbered (setsRows theory out) ≡ true
-unfolding setsRows
-numbered-setsRows theory out = refl
-
--- The listing has two bytes for each set.
-pub length-listing : (theory : List ℕ) → length (listing theory) ≡ 2 * length (setsOf theory)
-length-listing theory = length-numbersBytes (map numberOf (setsOf theory)) ∙ ap (λ n. 2 * n) (length-map (setsOf theory) numberOf)
 
 -- The three outcomes: more atoms than are listed, too little room, and the listing.
 module _ (theory out : List ℕ) where

@@ -1,9 +1,9 @@
 -- The proper subsets of T are those with a number below the full one, by induction on T: each atom of T takes one bit.
 use mathlib.Core.Path.{_≡_, refl, sym, ap, ap₂, subst, _∙_}
 use mathlib.Core.Logic.{_↔_}
-use mathlib.Core.Bool.{false≢true, Bool, true, false, not, cond, _||_}
+use mathlib.Core.Bool.{true, false, not, cond, _||_, false≢true, or-true, or-false}
 use mathlib.Core.List.{List, [], _∷_}
-use Prim.Native.Nat.{ℕ, _+_, _-_, _*_, _/_, _%_, _^_, _<_}
+use Prim.Native.Nat.{ℕ, suc, _+_, _-_, _*_, _/_, _%_, _^_, _<_}
 use native.Mathlib.Nat.{pow-succ'}
 use native.Mathlib.Omega.{arith}
 use lib.ListN.{length}
@@ -15,18 +15,20 @@ use Rattle.logic.specs.AnswerSet.{isAnswerSet}
 use Rattle.logic.proofs.Bools.{&&-split, &&-join, false-of, not-both}
 use Rattle.logic.proofs.Sets.{inside-refl}
 use Rattle.logic.proofs.AnswerSets.{isAnswerSet-iff}
-use Rattle.stable.specs.Subset.{size, odd, subset}
+use Rattle.stable.specs.Subset.{odd, subset}
 use Rattle.stable.proofs.Digits.{digit-lt, odd-digit, half-digit}
 
--- Every one is a subset.
+-- How many atoms the set has.
+unfoldable pub size : Atoms → ℕ
+size [] = 0
+size (true ∷ T) = suc (size T)
+size (false ∷ T) = size T
+
+-- Every number gives a subset.
 pub subset-inside : (T : Atoms) (m : ℕ) → inside (subset T m) T ≡ true
 unfolding subset
 subset-inside [] m = refl
-subset-inside (true ∷ T) m = &&-join (or-true (odd m)) (subset-inside T (m / 2))
-  where
-    or-true : (b : Bool) → (not b || true) ≡ true
-    or-true true = refl
-    or-true false = refl
+subset-inside (true ∷ T) m = &&-join (or-true (not (odd m))) (subset-inside T (m / 2))
 subset-inside (false ∷ T) m = subset-inside T m
 
 -- Only the full number gives all of T.
@@ -49,7 +51,7 @@ subset-full [] = refl
 subset-full (true ∷ T) =
     let last : (2 ^ size (true ∷ T) - 1) % 2 ≡ 1 = omega (arith, pow-pos (size T), pow-succ' 2 (size T)) in
     let rest : (2 ^ size (true ∷ T) - 1) / 2 ≡ 2 ^ size T - 1 = omega (arith, pow-pos (size T), pow-succ' 2 (size T)) in
-    ap₂ (λ b l. b ∷ l) (eq-eqb _ 1 last) (rw rest (subset-full T))
+    ap₂ _∷_ (eq-eqb _ 1 last) (rw rest (subset-full T))
 subset-full (false ∷ T) = ap (λ l. false ∷ l) (subset-full T)
 
 -- Every subset of T has a number.
@@ -62,16 +64,12 @@ subset-each (h ∷ H) (true ∷ T) p =
     let r = subset-each H T (&&-split (not h || true) (inside H T) p .1) in (
       cond h 1 0 + 2 * r .0,
       omega (arith, digit-lt h, r .1, pow-succ' 2 (size T)),
-      ap₂ (λ b l. b ∷ l) (odd-digit h (r .0)) (rw (half-digit h (r .0)) (r .2)),
+      ap₂ _∷_ (odd-digit h (r .0)) (rw (half-digit h (r .0)) (r .2)),
     )
 subset-each (h ∷ H) (false ∷ T) p =
     let q = &&-split (not h || false) (inside H T) p in
     let r = subset-each H T (q .1) in
-    (r .0, r .1, ap₂ (λ b l. b ∷ l) (outside h (q .0)) (r .2))
-  where
-    outside : (h : Bool) → (not h || false) ≡ true → false ≡ h
-    outside true e = e
-    outside false e = refl
+    (r .0, r .1, ap₂ _∷_ (sym (not-true h (rw or-false at (q .0)))) (r .2))
 
 -- Every proper subset of T has a number below the full one.
 pub proper-subset : (H T : Atoms) → proper H T ≡ true → (m : ℕ) × (m < 2 ^ size T - 1) × (subset T m ≡ H)

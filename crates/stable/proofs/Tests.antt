@@ -4,9 +4,7 @@ use mathlib.Core.Logic.{_↔_}
 use mathlib.Core.Bool.{Bool, true, false}
 use mathlib.Core.List.{List}
 use Prim.Native.Nat.{ℕ, _-_, _^_, _≤_, _<_}
-use native.Mathlib.Omega.{arith}
 use lib.ListN.{length}
-use Rattle.refusal.specs.Limits.{mostB}
 use Rattle.refusal.specs.Table.{none}
 use Rattle.refusal.specs.Rows.{countTrue}
 use Rattle.refusal.proofs.Rows.{none-argumentRows}
@@ -16,14 +14,14 @@ use Rattle.logic.specs.AnswerSet.{isAnswerSet}
 use Rattle.logic.proofs.Bools.{false-of, not-both}
 use Rattle.program.proofs.Accepted.{none-programRows}
 use Rattle.theory.proofs.Accepted.{accepted}
-use Rattle.stable.specs.Image.{imageRows, atomsOf, formulasOf, Testable}
+use Rattle.stable.specs.Image.{imageRows, atomsOf, mostBytes, formulasOf, Testable}
 use Rattle.stable.specs.Subset.{setOf, subset, Candidate, lowered}
 use Rattle.stable.proofs.Subsets.{isAnswerSet-subsets}
 use Rattle.stable.proofs.Candidates.{length-setOf, candidate-reading, candidate-size, lowered-reading}
 
 -- The smaller reading with the number m satisfies.
-abbrev pub smaller : Bool → (image candidate : List ℕ) → ℕ → Bool
-smaller program image candidate m = satisfies (readingOf (lowered candidate m)) (formulasOf program image)
+abbrev pub satisfiesLowered : Bool → (image candidate : List ℕ) → ℕ → Bool
+satisfiesLowered program image candidate m = satisfies (readingOf (lowered candidate m)) (formulasOf program image)
 
 module _ (program : Bool) (image candidate : List ℕ) (t : Testable program image candidate) where
   pub testable-length : length candidate ≡ atomsOf program image
@@ -32,20 +30,19 @@ module _ (program : Bool) (image candidate : List ℕ) (t : Testable program ima
   pub testable-candidate : Candidate candidate
   testable-candidate = none-argumentRows true (atomsOf program image) candidate (t .accepted) .1
 
-  -- It has at most the atoms of the largest program.
-  pub testable-short : length candidate ≤ mostB
+  pub testable-short : length candidate ≤ mostBytes program
   testable-short = rw testable-length (few program (t .checked))
     where
-      few : (program : Bool) → none (imageRows program image) ≡ true → atomsOf program image ≤ mostB
+      few : (program : Bool) → none (imageRows program image) ≡ true → atomsOf program image ≤ mostBytes program
       few true h = none-programRows image h .inside .size
-      few false h = omega (arith, accepted image h .header .few-atoms)
+      few false h = accepted image h .header .few-atoms
 
   -- A candidate is an answer set exactly if it satisfies and no smaller reading does.
   pub answer-iff : (isAnswerSet (atomsOf program image) (formulasOf program image) (setOf candidate) ≡ true)
-      ↔ ((satisfies (readingOf candidate) (formulasOf program image) ≡ true) × ((m : ℕ) → m < 2 ^ countTrue candidate - 1 → smaller program image candidate m ≡ false))
+      ↔ ((satisfies (readingOf candidate) (formulasOf program image) ≡ true) × ((m : ℕ) → m < 2 ^ countTrue candidate - 1 → satisfiesLowered program image candidate m ≡ false))
   answer-iff =
       let law = isAnswerSet-subsets (atomsOf program image) (formulasOf program image) (setOf candidate) (length-setOf candidate ∙ testable-length) in
-      let same : (m : ℕ) → smaller program image candidate m ≡ satisfies (reading (subset (setOf candidate) m) (setOf candidate)) (formulasOf program image)
+      let same : (m : ℕ) → satisfiesLowered program image candidate m ≡ satisfies (reading (subset (setOf candidate) m) (setOf candidate)) (formulasOf program image)
       = λ m. ap (λ I. satisfies I (formulasOf program image)) (lowered-reading candidate m) in
       let whole : satisfies (readingOf candidate) (formulasOf program image) ≡ satisfies (reading (setOf candidate) (setOf candidate)) (formulasOf program image)
       = ap (λ I. satisfies I (formulasOf program image)) (candidate-reading candidate testable-candidate) in
@@ -58,6 +55,6 @@ module _ (program : Bool) (image candidate : List ℕ) (t : Testable program ima
   pub answer-unsatisfied : satisfies (readingOf candidate) (formulasOf program image) ≡ false → isAnswerSet (atomsOf program image) (formulasOf program image) (setOf candidate) ≡ false
   answer-unsatisfied f = false-of _ (λ h. not-both f (answer-iff .0 h .0))
 
-  pub answer-smaller : (m : ℕ) → m < 2 ^ countTrue candidate - 1 → smaller program image candidate m ≡ true
+  pub answer-smaller : (m : ℕ) → m < 2 ^ countTrue candidate - 1 → satisfiesLowered program image candidate m ≡ true
       → isAnswerSet (atomsOf program image) (formulasOf program image) (setOf candidate) ≡ false
   answer-smaller m l s = false-of _ (λ h. not-both (answer-iff .0 h .1 m l) s)

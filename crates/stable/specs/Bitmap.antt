@@ -1,11 +1,11 @@
--- What the search for the listing keeps: a bitmap with a bit for each set of atoms, by its number.
+-- An implementation note, on which no promise rests: the search for the listing keeps a bitmap with a bit for each set of atoms, by its number.
 use mathlib.Core.Path.{_≡_}
 use mathlib.Core.Bool.{Bool, true, cond}
 use mathlib.Core.List.{List, [], _∷_, _++_}
 use Prim.Native.Nat.{ℕ, zero, suc, _+_, _/_, _%_, _^_, _≤_}
 use lib.ListN.{length, getD}
 use Rattle.wire.specs.Sequence.{upTo}
-use Rattle.refusal.specs.Limits.{mostListed}
+use Rattle.refusal.specs.Limits.{mostAtoms, mostNodes, mostListed}
 use Rattle.refusal.specs.Table.{none}
 use Rattle.logic.specs.AnswerSet.{isAnswerSet}
 use Rattle.theory.specs.Book.{bookFormulas}
@@ -31,8 +31,10 @@ eightOf test from = numberOf (upTo (λ j. test (from + j)) 8)
 unfoldable pub isListed : List ℕ → ℕ → Bool
 isListed theory c = isAnswerSet (atomCount theory) (bookFormulas (bookOf theory)) (setOfNumber (atomCount theory) c)
 
--- The theory is checked and has few atoms, and there is a candidate's room.
-pub record Listable (theory room : List ℕ) : Type 0 where
+-- The theory is checked and has few atoms, and there is room for a candidate of it, for a reading and for the values of nodes.
+pub record Listable (theory candidate reading values : List ℕ) : Type 0 where
   pub checked : none (theoryRows theory) ≡ true
-  pub sized : length room ≡ atomCount theory
   pub few : atomCount theory ≤ mostListed
+  pub sized : length candidate ≡ atomCount theory
+  pub wide : mostAtoms ≤ length reading
+  pub long : mostNodes ≤ length values

@@ -1,9 +1,9 @@
--- What a candidate is tested against: a theory image or a program image.
+-- An implementation note, on which no promise rests: a candidate is tested against a theory image or a program image, by one search.
 use mathlib.Core.Path.{_≡_}
 use mathlib.Core.Bool.{Bool, true, false}
 use mathlib.Core.List.{List}
 use Prim.Native.Nat.{ℕ, _≤_}
-use Rattle.refusal.specs.Limits.{mostTrue}
+use Rattle.refusal.specs.Limits.{mostAtoms, mostNodes, mostB, mostTrue}
 use Rattle.refusal.specs.Table.{Row, none}
 use Rattle.refusal.specs.Rows.{candidateRows, countTrue}
 use Rattle.logic.specs.Formula.{Formula}
@@ -23,6 +23,16 @@ imageRows false t = theoryRows t
 abbrev pub atomsOf : (isProgram : Bool) → List ℕ → ℕ
 atomsOf true p = sizeOf p
 atomsOf false t = atomCount t
+
+-- The most bytes that one of its readings has,
+abbrev pub mostBytes : (isProgram : Bool) → ℕ
+mostBytes true = mostB
+mostBytes false = mostAtoms
+
+-- and the most nodes that have a value: a program has none.
+abbrev pub mostValues : (isProgram : Bool) → ℕ
+mostValues true = 0
+mostValues false = mostNodes
 
 -- The formulas that it stands for.
 abbrev pub formulasOf : (isProgram : Bool) → List ℕ → List Formula

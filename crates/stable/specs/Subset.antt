@@ -1,28 +1,18 @@
--- The set that a candidate names, and the subsets of a set by number.
+-- The set of a candidate. All else here is an implementation note, on which no promise rests: the search goes through the subsets of a set by number.
 use mathlib.Core.Path.{_≡_}
 use mathlib.Core.Bool.{Bool, true, false}
 use mathlib.Core.List.{List, [], _∷_, map}
-use Prim.Native.Nat.{ℕ, suc, _/_, _%_, _<_}
+use Prim.Native.Nat.{ℕ, _/_, _%_, _<_}
 use lib.Dec.{eqb}
 use lib.ListN.{length, getD}
 use Rattle.refusal.specs.Rows.{wrong}
 use Rattle.logic.specs.Value.{number}
-use Rattle.logic.specs.Formula.{Reading, readingOf}
+use Rattle.logic.specs.Formula.{readingOf}
 use Rattle.logic.specs.Atoms.{Atoms, hereOf, reading}
 
 -- The set of a candidate's bytes: the atoms that are true.
 abbrev pub setOf : List ℕ → Atoms
 setOf bytes = hereOf (readingOf bytes)
-
--- The bytes of a reading.
-abbrev pub bytesOf : Reading → List ℕ
-bytesOf I = map number I
-
--- How many atoms the set has.
-unfoldable pub size : Atoms → ℕ
-size [] = 0
-size (true ∷ T) = suc (size T)
-size (false ∷ T) = size T
 
 -- Is the lowest bit of the number set?
 abbrev pub odd : ℕ → Bool
@@ -36,7 +26,7 @@ subset (false ∷ T) m = false ∷ subset T m
 
 -- The candidate of a set: 2 on its atoms, 0 elsewhere.
 unfoldable pub candidateOf : Atoms → List ℕ
-candidateOf T = bytesOf (reading T T)
+candidateOf T = map number (reading T T)
 
 -- The bytes are a candidate's: none is wrong.
 abbrev pub Candidate : List ℕ → Type 0
@@ -44,4 +34,4 @@ Candidate bytes = (i : ℕ) → i < length bytes → wrong true (getD bytes i 0)
 
 -- The bytes with 2 on the subset with the number m, 1 on the rest of the candidate, 0 elsewhere.
 unfoldable pub lowered : List ℕ → ℕ → List ℕ
-lowered bytes m = bytesOf (reading (subset (setOf bytes) m) (setOf bytes))
+lowered bytes m = map number (reading (subset (setOf bytes) m) (setOf bytes))

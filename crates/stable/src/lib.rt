@@ -3,9 +3,9 @@ use refusal::Answer;
 ghost use mathlib.Core.Path.{_≡_};
 ghost use mathlib.Core.Bool.{true};
 ghost use Prim.Native.Nat.{ℕ, _*_, _^_, _≤_, _<_};
-ghost use lib.ListN.{length};
+ghost use lib.ListN.{length, take};
 ghost use Rattle.wire.specs.Wire.{over};
-ghost use Rattle.refusal.specs.Limits.{mostNodes, mostTrue};
+ghost use Rattle.refusal.specs.Limits.{mostTrue};
 ghost use Rattle.refusal.specs.Table.{none, answer};
 ghost use Rattle.refusal.specs.Rows.{candidateRows, countTrue};
 ghost use Rattle.logic.specs.Formula.{readingOf, satisfies};
@@ -16,17 +16,17 @@ ghost use Rattle.theory.specs.Rows.{theoryRows};
 ghost use Rattle.program.specs.Program.{programFormulas};
 ghost use Rattle.program.specs.Image.{sizeOf, programOf};
 ghost use Rattle.program.specs.Rows.{programRows};
-ghost use Rattle.stable.specs.Image.{imageRows, atomsOf, formulasOf, Testable};
+ghost use Rattle.stable.specs.Image.{imageRows, atomsOf, mostBytes, mostValues, formulasOf, Testable};
 ghost use Rattle.stable.specs.Subset.{setOf, Candidate, candidateOf, lowered};
 ghost use Rattle.stable.specs.Number.{setOfNumber};
 ghost use Rattle.stable.specs.Listing.{numbersBytes, setsOf, setsRows, listed};
 ghost use Rattle.stable.specs.Bitmap.{bitAt, passing, eightOf, isListed, Listable};
 
-// Writes the reading of the subset with the number `m`: 2 on the atoms of the subset, 1 on the other atoms of the candidate, 0 elsewhere.
+// Writes the reading of the subset with the number `m` over the start of `out`: 2 on the atoms of the subset, 1 on the other atoms of the candidate, 0 elsewhere.
 fn lower(candidate: &[u8], m: usize, out: &mut [u8])
     requires { ⌜ Candidate (now candidate) ⌝ }
-    requires { ⌜ length (now out) ≡ length (now candidate) ⌝ }
-    ensures { λ _. ⌜ now (out .exit) ≡ lowered (now (candidate .entry)) m ⌝ }
+    requires { ⌜ length (now candidate) ≤ length (now out) ⌝ }
+    ensures { λ _. ⌜ take (length (now (candidate .entry))) (now (out .exit)) ≡ lowered (now (candidate .entry)) m ⌝ }
 {
     let mut rest = m;
     let mut i = 0;
@@ -45,7 +45,7 @@ fn lower(candidate: &[u8], m: usize, out: &mut [u8])
 fn satisfied(image: &[u8], program: bool, reading: &[u8], values: &mut [u8]) -> bool
     requires { ⌜ none (imageRows program (now image)) ≡ true ⌝ }
     requires { ⌜ length (now reading) ≡ atomsOf program (now image) ⌝ }
-    requires { ⌜ mostNodes ≤ length (now values) ⌝ }
+    requires { ⌜ mostValues program ≤ length (now values) ⌝ }
     ensures { λ r. ⌜ r ≡ satisfies (readingOf (now (reading .entry))) (formulasOf program (now (image .entry))) ⌝ }
 {
     if program {
@@ -62,8 +62,8 @@ fn two_to(k: usize) -> usize
     1 << k
 }
 
-// Whether no smaller reading of a candidate that satisfies does so too; `reading` is room for one, and `values` for the values of nodes.
-fn is_smallest(
+// Whether the candidate is an answer set: it satisfies, and no smaller reading does. `reading` is room for one, and `values` for the values of nodes.
+fn is_answer_set(
     image: &[u8],
     program: bool,
     candidate: &[u8],
@@ -71,40 +71,23 @@ fn is_smallest(
     values: &mut [u8],
 ) -> bool
     requires { ⌜ Testable program (now image) (now candidate) ⌝ }
-    requires { ⌜ satisfies (readingOf (now candidate)) (formulasOf program (now image)) ≡ true ⌝ }
-    requires { ⌜ length (now reading) ≡ length (now candidate) ⌝ }
-    requires { ⌜ mostNodes ≤ length (now values) ⌝ }
+    requires { ⌜ mostBytes program ≤ length (now reading) ⌝ }
+    requires { ⌜ mostValues program ≤ length (now values) ⌝ }
     ensures { λ r. ⌜ r ≡ isAnswerSet (atomsOf program (now (image .entry))) (formulasOf program (now (image .entry))) (setOf (now (candidate .entry))) ⌝ }
 {
+    if !satisfied(image, program, candidate, values) {
+        return false;
+    }
     let full = two_to(refusal::count_true(candidate)) - 1;
     let mut m = 0;
     while m < full {
         lower(candidate, m, reading);
-        if satisfied(image, program, reading, values) {
+        if satisfied(image, program, &reading[..candidate.len()], values) {
             return false;
         }
         m += 1;
     }
     true
-}
-
-// Whether the candidate is an answer set.
-fn is_answer_set(image: &[u8], program: bool, candidate: &[u8]) -> bool
-    requires { ⌜ Testable program (now image) (now candidate) ⌝ }
-    ensures { λ r. ⌜ r ≡ isAnswerSet (atomsOf program (now (image .entry))) (formulasOf program (now (image .entry))) (setOf (now (candidate .entry))) ⌝ }
-{
-    let mut values = [0u8; refusal::MOST_NODES];
-    if !satisfied(image, program, candidate, &mut values) {
-        return false;
-    }
-    let mut reading = [0u8; refusal::MOST_B];
-    is_smallest(
-        image,
-        program,
-        candidate,
-        &mut reading[..candidate.len()],
-        &mut values,
-    )
 }
 
 // Whether a candidate is an answer set of a theory.
@@ -114,7 +97,9 @@ pub fn test_theory(theory: &[u8], candidate: &[u8]) -> bool
     requires { ⌜ countTrue (now candidate) ≤ mostTrue ⌝ }
     ensures { λ r. ⌜ r ≡ isAnswerSet (atomCount (now (theory .entry))) (bookFormulas (bookOf (now (theory .entry)))) (setOf (now (candidate .entry))) ⌝ }
 {
-    is_answer_set(theory, false, candidate)
+    let mut reading = [0u8; refusal::MOST_ATOMS];
+    let mut values = [0u8; refusal::MOST_NODES];
+    is_answer_set(theory, false, candidate, &mut reading, &mut values)
 }
 
 // Whether a candidate is an answer set of a program.
@@ -124,7 +109,8 @@ pub fn test_program(program: &[u8], candidate: &[u8]) -> bool
     requires { ⌜ countTrue (now candidate) ≤ mostTrue ⌝ }
     ensures { λ r. ⌜ r ≡ isAnswerSet (sizeOf (now (program .entry))) (programFormulas (programOf (now (program .entry)))) (setOf (now (candidate .entry))) ⌝ }
 {
-    is_answer_set(program, true, candidate)
+    let mut reading = [0u8; refusal::MOST_B];
+    is_answer_set(program, true, candidate, &mut reading, &mut [])
 }
 
 // Writes the candidate of the set with this number over all of `out`.
@@ -140,18 +126,15 @@ fn candidate_of(number: usize, out: &mut [u8])
     }
 }
 
-// Whether the set with this number is an answer set; `room` is for its candidate.
-fn is_listed(theory: &[u8], number: usize, room: &mut [u8]) -> bool
-    requires { ⌜ Listable (now theory) (now room) ⌝ }
-    ensures { λ r. ⌜ r ≡ isListed (now (theory .entry)) number ⌝ }
-{
-    candidate_of(number, room);
-    test_theory(theory, room)
-}
-
-// The eight sets with the numbers from `from` on, a bit for each.
-fn eight(theory: &[u8], from: usize, room: &mut [u8]) -> u8
-    requires { ⌜ Listable (now theory) (now room) ⌝ }
+// Which of the eight sets with the numbers from `from` on are answer sets, a bit for each; the last three slices are room for a test.
+fn eight(
+    theory: &[u8],
+    from: usize,
+    candidate: &mut [u8],
+    reading: &mut [u8],
+    values: &mut [u8],
+) -> u8
+    requires { ⌜ Listable (now theory) (now candidate) (now reading) (now values) ⌝ }
     requires { ⌜ from ≤ 4096 ⌝ }
     ensures { λ r. ⌜ r ≡ eightOf (isListed (now (theory .entry))) from ⌝ }
 {
@@ -159,7 +142,8 @@ fn eight(theory: &[u8], from: usize, room: &mut [u8]) -> u8
     let mut weight: usize = 1;
     let mut j = 0;
     while j < 8 {
-        if is_listed(theory, from + j, room) {
+        candidate_of(from + j, candidate);
+        if is_answer_set(theory, false, candidate, reading, values) {
             bits += weight;
         }
         weight *= 2;
@@ -168,16 +152,22 @@ fn eight(theory: &[u8], from: usize, room: &mut [u8]) -> u8
     bits as u8
 }
 
-// Sets the bits of the numbers whose sets are answer sets.
-fn find_sets(theory: &[u8], room: &mut [u8], found: &mut [u8; 512])
-    requires { ⌜ Listable (now theory) (now room) ⌝ }
+// Sets the bits of the numbers whose sets are answer sets; the slices between are room for a test.
+fn find_sets(
+    theory: &[u8],
+    candidate: &mut [u8],
+    reading: &mut [u8],
+    values: &mut [u8],
+    found: &mut [u8; 512],
+)
+    requires { ⌜ Listable (now theory) (now candidate) (now reading) (now values) ⌝ }
     requires { ⌜ length (now found) ≡ 512 ⌝ }
     ensures { λ _. ⌜ ((c : ℕ) → c < 2 ^ atomCount (now (theory .entry)) → bitAt (now (found .exit)) c ≡ isListed (now (theory .entry)) c) ⌝ }
 {
-    let sets = two_to(room.len());
+    let sets = two_to(candidate.len());
     let mut i = 0;
     while i * 8 < sets {
-        found[i] = eight(theory, i * 8, room);
+        found[i] = eight(theory, i * 8, candidate, reading, values);
         i += 1;
     }
 }
@@ -233,9 +223,17 @@ pub fn list_sets(theory: &[u8], out: &mut [u8]) -> Answer
     if refusal::MOST_LISTED < atoms {
         return refusal::refuse(11, atoms);
     }
-    let mut room = [0u8; refusal::MOST_LISTED];
+    let mut candidate = [0u8; refusal::MOST_LISTED];
+    let mut reading = [0u8; refusal::MOST_ATOMS];
+    let mut values = [0u8; refusal::MOST_NODES];
     let mut found = [0u8; 512];
-    find_sets(theory, &mut room[..atoms], &mut found);
+    find_sets(
+        theory,
+        &mut candidate[..atoms],
+        &mut reading,
+        &mut values,
+        &mut found,
+    );
     let sets = two_to(atoms);
     let count = count_set(&found, sets);
     if out.len() < 2 * count {

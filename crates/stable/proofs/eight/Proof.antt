@@ -12,43 +12,50 @@ use denote.Ref.{now}
 use borrow.Author.Needs.{needs}
 use Rattle.wire.specs.Sequence.{upTo}
 use Rattle.stable.specs.Number.{numberOf}
-use Rattle.stable.specs.Bitmap.{eightOf, isListed}
-use Rattle.stable.proofs.Bitmaps.{bits-with, bits-without, bits-lt}
+use Rattle.stable.specs.Bitmap.{eightOf, isListed, Listable}
+use Rattle.stable.proofs.Bitmaps.{bits-with, bits-without, bits-lt, listable-kept, number-testable, number-listed}
 use Rattle.stable.proofs.eight.Statement.{statement}
 use Rattle.stable.proofs.eight.Tie as tie
 
 abbrev Inv-loop : tie.InvT-loop
-Inv-loop theory from room₀ bits₀ weight₀ j₀ room bits weight j = (bits ≡ numberOf (upTo (λ k. isListed theory (from + k)) j)) × (weight ≡ 2 ^ j) × (j ≤ 8) × (length room ≡ length room₀)
+Inv-loop theory from candidate₀ reading₀ values₀ bits₀ weight₀ j₀ candidate reading values bits weight j =
+    Listable theory candidate reading values
+    × (bits ≡ numberOf (upTo (λ k. isListed theory (from + k)) j))
+    × (weight ≡ 2 ^ j)
+    × (j ≤ 8)
+    × (length candidate ≡ length candidate₀)
+    × (length reading ≡ length reading₀)
+    × (length values ≡ length values₀)
 
 abbrev μ-loop : tie.MeasureT-loop
-μ-loop theory from room₀ bits₀ weight₀ j₀ room bits weight j = 8 - j
+μ-loop theory from candidate₀ reading₀ values₀ bits₀ weight₀ j₀ candidate reading values bits weight j = 8 - j
 
 -- the bits and the weight stay small
 below : (c : tie.At-loop Inv-loop μ-loop) → (c .loop .bits < c .loop .weight) × (c .loop .weight ≤ 256)
 below c =
-    let start = c .before .before .before in
-    let inv = c .loop .inv in
-    (omega (arith, bits-lt (λ k. isListed (now (start .args .theory)) (start .args .from + k)) (c .loop .j)), omega (arith, pow-mono {j = 8} (inv .2)))
+    let start = c .before .before .before .before .before in
+    (omega (arith, bits-lt (λ k. isListed (now (start .args .theory)) (start .args .from + k)) (c .loop .j)), omega (arith, pow-mono {j = 8} (c .loop .inv .3)))
 
 loop-holds : tie.Need-loop-holds Inv-loop μ-loop
 unfolding upTo numberOf
-loop-holds c = (refl, refl, search needs, refl)
+loop-holds c = (c .before .before .before .before .pre .0, refl, refl, search needs, refl, refl, refl)
 
-add-is-listed : tie.Need-add-is-listed Inv-loop μ-loop
-add-is-listed c = search needs
+add-candidate-of : tie.Need-add-candidate-of Inv-loop μ-loop
+add-candidate-of c = search needs
 
-is-listed-requires : tie.Need-is-listed-requires Inv-loop μ-loop
-is-listed-requires c κs =
-    let listable = c .before .before .before .before .before .pre .0 in
-    record { checked = listable .checked; sized = c .before .before .loop .inv .3 ∙ listable .sized; few = listable .few }
+candidate-of-requires : tie.Need-candidate-of-requires Inv-loop μ-loop
+candidate-of-requires c κs = search needs
+
+is-answer-set-requires : tie.Need-is-answer-set-requires Inv-loop μ-loop
+is-answer-set-requires c κs =
+    let listable = c .before .before .before .before .before .before .before .before .loop .inv .0 in
+    rw (c .before .before .before .before .before .candidate-of .ensures) (number-testable listable _, (listable .wide, listable .long))
 
 add-bits : tie.Need-add-bits Inv-loop μ-loop
-add-bits c =
-    let loop = c .before .before .before .before .before .before in
-    omega (arith, below loop)
+add-bits c = omega (arith, below (c .before .before .before .before .before .before .before .before .before .before .before .before .before .before))
 
 mul-weight : tie.Need-mul-weight Inv-loop μ-loop
-mul-weight c = omega (arith, below (c .before .before .before .before .before .before))
+mul-weight c = omega (arith, below (c .before .before .before .before .before .before .before .before .before .before .before .before .before .before))
 
 add-j : tie.Need-add-j Inv-loop μ-loop
 add-j c = search needs
@@ -58,15 +65,15 @@ loop-less c = search needs
 
 loop-again : tie.Need-loop-again Inv-loop μ-loop
 loop-again c =
-    let loop = c .before .before .before .before .before .before in
-    let start = loop .before .before .before in
+    let loop = c .before .before .before .before .before .before .before .before .before .before .before .before .before .before in
+    let start = loop .before .before .before .before .before in
     let test : ℕ → Bool = λ k. isListed (now (start .args .theory)) (start .args .from + k) in
+    let answered : c .before .before .before .before .before .is-answer-set .result ≡ test (loop .loop .j)
+    = rw (c .before .before .before .before .before .before .before .before .before .before .before .candidate-of .ensures, number-listed (loop .loop .inv .0) (start .args .from + loop .loop .j)) at (c .before .before .before .before .before .is-answer-set .ensures) in
     let twice : loop .loop .weight * 2 ≡ 2 ^ (loop .loop .j + 1) = omega (arith, pow-succ' 2 (loop .loop .j), ap (λ n. 2 ^ n) (add-one (loop .loop .j))) in
-    let kept : length (c .before .before .before .is-listed .last .1 .1 .0) ≡ length (now (start .args .room)) = omega (arith, c .before .before .before .is-listed .kept .1 .1 .0) in
-    let called = sym (c .before .before .before .is-listed .ensures) in
     ⊎-elim
-    (λ w. (omega (arith, bits-with test (loop .loop .j) (called ∙ w .0 .taken), w .1), twice, search needs, kept))
-    (λ w. (omega (arith, bits-without test (loop .loop .j) (called ∙ w .0 .left), w .1), twice, search needs, kept))
+    (λ w. (listable-kept (loop .loop .inv .0) (search needs) (search needs) (search needs), omega (arith, bits-with test (loop .loop .j) (sym answered ∙ w .0 .taken), w .1), twice, search needs, search needs, search needs, search needs))
+    (λ w. (listable-kept (loop .loop .inv .0) (search needs) (search needs) (search needs), omega (arith, bits-without test (loop .loop .j) (sym answered ∙ w .0 .left), w .1), twice, search needs, search needs, search needs, search needs))
     (c .if1 .came)
 
 cast-result : tie.Need-cast-result Inv-loop μ-loop
@@ -75,9 +82,15 @@ cast-result c = omega (arith, below (c .before))
 same-length : tie.Need-same-length Inv-loop μ-loop
 same-length c = search needs
 
+same-length-2 : tie.Need-same-length-2 Inv-loop μ-loop
+same-length-2 c = search needs
+
+same-length-3 : tie.Need-same-length-3 Inv-loop μ-loop
+same-length-3 c = search needs
+
 returns : tie.Need-returns Inv-loop μ-loop
 unfolding eightOf
-returns c = let e : c .before .loop .j ≡ 8 = omega arith in rw e at (c .before .loop .inv .0)
+returns c = let e : c .before .loop .j ≡ 8 = omega arith in rw e at (c .before .loop .inv .1)
 
 pub eight-spec : {M : Type 1} → statement M
 eight-spec =
@@ -86,8 +99,9 @@ eight-spec =
     Inv-loop
     μ-loop
     loop-holds
-    add-is-listed
-    is-listed-requires
+    add-candidate-of
+    candidate-of-requires
+    is-answer-set-requires
     add-bits
     mul-weight
     add-j
@@ -95,4 +109,6 @@ eight-spec =
     loop-again
     cast-result
     same-length
+    same-length-2
+    same-length-3
     returns)

@@ -8,30 +8,32 @@ use denote.Ref.{now}
 use borrow.Author.Needs.{needs}
 use Rattle.theory.specs.Image.{atomCount}
 use Rattle.stable.specs.Bitmap.{bitAt, isListed}
-use Rattle.stable.proofs.Bitmaps.{bitAt-set}
+use Rattle.stable.proofs.Bitmaps.{bitAt-set, listable-kept}
 use Rattle.stable.proofs.find_sets.Statement.{statement}
 use Rattle.stable.proofs.find_sets.Tie as tie
 
 abbrev Inv-loop : tie.InvT-loop
-Inv-loop theory room₀ found₀ sets i₀ room found i =
+Inv-loop theory candidate₀ reading₀ values₀ found₀ sets i₀ candidate reading values found i =
     ((c : ℕ) → c < i * 8 → bitAt found c ≡ isListed theory c)
     × (sets ≡ 2 ^ atomCount theory)
     × (sets ≤ 4096)
     × (i ≤ 512)
-    × (length room ≡ length room₀)
+    × (length candidate ≡ length candidate₀)
+    × (length reading ≡ length reading₀)
+    × (length values ≡ length values₀)
     × (length found ≡ 512)
 
 abbrev μ-loop : tie.MeasureT-loop
-μ-loop theory room₀ found₀ sets i₀ room found i = 512 - i
+μ-loop theory candidate₀ reading₀ values₀ found₀ sets i₀ candidate reading values found i = 512 - i
 
 two-to-requires : tie.Need-two-to-requires Inv-loop μ-loop
 two-to-requires c κs = search needs
 
 loop-holds : tie.Need-loop-holds Inv-loop μ-loop
 loop-holds c =
-    let start = c .before .before .before in
+    let start = c .before .before .before .before .before in
     let e : c .two-to .result ≡ 2 ^ atomCount (now (start .args .theory)) = c .two-to .ensures .0 ∙ ap (λ n. 2 ^ n) (start .pre .0 .sized) in
-    (λ k l. absurd (omega arith), e, rw e (pow-mono {j = 12} (start .pre .0 .few)), search needs, refl, start .pre .1)
+    (λ k l. absurd (omega arith), e, rw e (pow-mono {j = 12} (start .pre .0 .few)), search needs, refl, refl, refl, start .pre .1)
 
 mul-loop : tie.Need-mul-loop Inv-loop μ-loop
 mul-loop c = search needs
@@ -41,9 +43,8 @@ mul-eight c = search needs
 
 eight-requires : tie.Need-eight-requires Inv-loop μ-loop
 eight-requires c κs =
-    let loop = c .before .before in
-    let listable = loop .before .before .before .before .pre .0 in
-    (record { checked = listable .checked; sized = loop .loop .inv .4 ∙ listable .sized; few = listable .few }, search needs)
+    let inv = c .before .before .before .before .loop .inv in
+    (listable-kept (c .before .before .before .before .before .before .before .before .before .before .pre .0) (inv .4) (inv .5) (inv .6), search needs)
 
 element-write-found : tie.Need-element-write-found Inv-loop μ-loop
 element-write-found c = search needs
@@ -56,19 +57,25 @@ loop-less c = search needs
 
 loop-again : tie.Need-loop-again Inv-loop μ-loop
 loop-again c =
-    let loop = c .before .before .before .before .before in
-    let start = loop .before .before .before .before in
-    let test = isListed (now (start .args .theory)) in (
-      rw (c .before .before .eight .ensures) (bitAt-set test (loop .loop .found) (loop .loop .i) (omega arith) (loop .loop .inv .0)),
+    let loop = c .before .before .before .before .before .before .before .before .before .before .before .loop in (
+      rw (c .before .before .before .before .before .before .eight .ensures) (bitAt-set _ (loop .found) (loop .i) (omega arith) (loop .inv .0)),
       search needs,
       search needs,
       search needs,
-      omega (arith, c .before .before .eight .kept .1 .1 .0),
+      search needs,
+      search needs,
+      search needs,
       simp length-set (search needs),
     )
 
 same-length : tie.Need-same-length Inv-loop μ-loop
 same-length c = search needs
+
+same-length-2 : tie.Need-same-length-2 Inv-loop μ-loop
+same-length-2 c = search needs
+
+same-length-3 : tie.Need-same-length-3 Inv-loop μ-loop
+same-length-3 c = search needs
 
 returns : tie.Need-returns Inv-loop μ-loop
 returns c = λ k l. c .before .loop .inv .0 k (omega arith)
@@ -89,4 +96,6 @@ find-sets-spec =
     loop-less
     loop-again
     same-length
+    same-length-2
+    same-length-3
     returns)

@@ -5,7 +5,7 @@ use mathlib.Core.List.{_++_, append-nil}
 use Prim.Native.Nat.{_+_, _-_, _%_, _≤_}
 use native.Mathlib.Omega.{arith}
 use lib.ListN.{length, getD, take, drop, length-set}
-use lib.Seq.{take-all, drop-length}
+use lib.Seq.{drop-length}
 use denote.Ref.{now}
 use borrow.Author.Needs.{needs}
 use borrow.Author.Tests.{eq-eqb, ne-eqb}
@@ -16,13 +16,13 @@ use Rattle.stable.proofs.lower.Tie as tie
 
 abbrev Inv-loop : tie.InvT-loop
 Inv-loop candidate m out₀ rest₀ i₀ out rest i =
-    (take i out ++ lowered (drop i candidate) rest ≡ lowered candidate m) × (i ≤ length candidate) × (length out ≡ length candidate)
+    (take i out ++ lowered (drop i candidate) rest ≡ lowered candidate m) × (i ≤ length candidate) × (length out ≡ length out₀)
 
 abbrev μ-loop : tie.MeasureT-loop
 μ-loop candidate m out₀ rest₀ i₀ out rest i = length candidate - i
 
 loop-holds : tie.Need-loop-holds Inv-loop μ-loop
-loop-holds c = (refl, search needs, search needs)
+loop-holds c = (refl, search needs, refl)
 
 shared-slice-read-if1 : tie.Need-shared-slice-read-if1 Inv-loop μ-loop
 shared-slice-read-if1 c = search needs
@@ -76,8 +76,7 @@ returns c =
     let loop = c .before .loop in
     let bytes = now (c .before .before .args .candidate) in
     let e : loop .i ≡ length bytes = omega arith in
-    let whole : take (loop .i) (loop .out) ≡ loop .out = take-all (loop .i) (loop .out) (omega arith) in
-    rw (whole, e, drop-length, append-nil) at (loop .inv .0)
+    rw (e, drop-length, append-nil) at (loop .inv .0)
 
 pub lower-spec : {M : Type 1} → statement M
 lower-spec =

@@ -1,11 +1,8 @@
 -- `satisfied` asks the image's own crate; a program is satisfied exactly if its formulas are. Assumes nothing.
-use mathlib.Core.Path.{_≡_, sym, _∙_}
-use mathlib.Core.Bool.{true}
+use mathlib.Core.Path.{sym, _∙_}
 use native.Mathlib.Omega.{arith}
 use denote.Ref.{now}
-use Rattle.refusal.specs.Table.{none}
 use Rattle.logic.specs.Formula.{readingOf}
-use Rattle.theory.specs.Rows.{theoryRows}
 use Rattle.theory.proofs.Accepted.{accepted}
 use Rattle.program.specs.Image.{programOf}
 use Rattle.program.proofs.Rules.{program-value}
@@ -23,9 +20,10 @@ returns c =
 
 satisfied-requires-2 : tie.Need-satisfied-requires-2
 satisfied-requires-2 c κs =
-    let start = c .before .before .before .before .before in
-    let checked : none (theoryRows (now (start .args .image))) ≡ true = rw (c .before .if1 .left) at (start .pre .0) in
-    (checked, (rw (c .before .if1 .left) at (start .pre .1 .0), omega (arith, accepted (now (start .args .image)) checked .header .few-nodes, start .pre .1 .1)))
+    let pre = c .before .before .before .before .before .pre in
+    let checked = rw (c .before .if1 .left) at (pre .0) in
+    let room = rw (c .before .if1 .left) at (pre .1 .1) in
+    (checked, (rw (c .before .if1 .left) at (pre .1 .0), omega (arith, accepted _ checked .header .few-nodes, room)))
 
 same-length : tie.Need-same-length
 same-length c = search needs
