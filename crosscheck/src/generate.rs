@@ -1,11 +1,12 @@
 //! Random books, programs and interpretations.
 
-use crate::plain::{self, Book, Node, Program, Rule};
+use crate::lists::{self, Book, Program, Rule};
+use crate::node::Node;
 use crate::random::Random;
 
 /// Moves the roots of a book to nodes that hold under `reading`, if there are any.
 pub fn satisfy(random: &mut Random, book: &mut Book, reading: &[u8]) {
-    let (here, there) = plain::worlds(reading);
+    let (here, there) = lists::worlds(reading);
     let truths = book.truths(&here, &there);
     let holding: Vec<usize> = (0..truths.len()).filter(|&node| truths[node].0).collect();
     if !holding.is_empty() {

@@ -1,6 +1,6 @@
 //! Flat programs as text for the solver clingo, and its output read back.
 
-use crate::plain::{Program, Rule};
+use crate::lists::{Program, Rule};
 use std::io::{Error, ErrorKind, Result, Write};
 use std::process::{Command, Stdio};
 

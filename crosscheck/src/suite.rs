@@ -1,11 +1,12 @@
 //! The inputs on which two implementations are compared, part by part.
 //!
-//! Beside the comparison, most parts know what the answer must be, from [`plain`] or because the
+//! Beside the comparison, most parts know what the answer must be, from [`lists`] or because the
 //! input was made so; then both sides must also agree with that.
 
 use crate::calls::{Answer, Call, Calls};
 use crate::compare::{hex, Checked, Comparer, Finding};
-use crate::plain::{self, Book, Node, Program, Rule, Set};
+use crate::lists::{self, Book, Program, Rule, Set};
+use crate::node::Node;
 use crate::random::Random;
 use crate::{damage, formula, generate, solver, worked};
 
@@ -121,7 +122,7 @@ impl<'c> Suite<'c> {
 
         for (index, reading) in readings.iter().enumerate() {
             let satisfied = self.accepted(Call::EvaluateTheory, image, reading)? == 1;
-            let (here, there) = plain::worlds(reading);
+            let (here, there) = lists::worlds(reading);
             demand(satisfied == book.satisfied(&here, &there), Call::EvaluateTheory, image, || {
                 format!("by the two worlds the answer under {} is the other one", hex(reading))
             })?;
@@ -211,7 +212,7 @@ impl<'c> Suite<'c> {
         let mut turn = 0;
         for atoms in 0..=2 {
             let readings = all_readings(atoms);
-            let candidates: Vec<Vec<u8>> = (0..1 << atoms).map(|set| plain::reading(set, set, atoms)).collect();
+            let candidates: Vec<Vec<u8>> = (0..1 << atoms).map(|set| lists::reading(set, set, atoms)).collect();
             for nodes in small_node_lists(atoms) {
                 for roots in small_root_lists(nodes.len()) {
                     turn += 1;
@@ -506,7 +507,7 @@ impl<'c> Suite<'c> {
             self.program(&program, 4)?;
             let expected = program.answer_sets();
             for set in 0..1 << all {
-                let found = self.accepted(Call::TestProgram, &image, &plain::reading(set, set, all))?;
+                let found = self.accepted(Call::TestProgram, &image, &lists::reading(set, set, all))?;
                 demand((found == 1) == expected.contains(&set), Call::TestProgram, &image, || {
                     format!("the sets should be {expected:?}")
                 })?;
@@ -535,7 +536,7 @@ impl<'c> Suite<'c> {
         for _ in 0..count {
             let reading = generate::reading(&mut self.random, program.all);
             let satisfied = self.accepted(Call::EvaluateProgram, &image, &reading)?;
-            let (here, there) = plain::worlds(&reading);
+            let (here, there) = lists::worlds(&reading);
             demand((satisfied == 1) == program.satisfied(&here, &there), Call::EvaluateProgram, &image, || {
                 format!("by the two worlds the answer under {} is the other one", hex(&reading))
             })?;
@@ -611,9 +612,9 @@ impl<'c> Suite<'c> {
         let of = |here: &[bool], there: &[bool]| -> Vec<u8> {
             here.iter().zip(there).map(|(&here, &there)| u8::from(here) + u8::from(there)).collect()
         };
-        let direct = plain::answer_sets(book.atoms, |here, there| together[number(&of(here, there))]);
+        let direct = lists::answer_sets(book.atoms, |here, there| together[number(&of(here, there))]);
         demand(direct == listed, Call::ListSets, &both, || format!("evaluation gives the sets {direct:?}"))?;
-        let mut dropped: Vec<Set> = plain::answer_sets(all, |here, there| {
+        let mut dropped: Vec<Set> = lists::answer_sets(all, |here, there| {
             let reading = of(here, there);
             satisfied[number(&reading)] && allowed[number(&reading[..book.atoms])]
         })
@@ -641,7 +642,7 @@ impl<'c> Suite<'c> {
                 format!("{}: brute force differs from the table", example.source)
             })?;
             let readings = if book.atoms <= 3 { all_readings(book.atoms) } else { vec![] };
-            let candidates: Vec<Vec<u8>> = expected.iter().map(|&set| plain::reading(set, set, book.atoms)).collect();
+            let candidates: Vec<Vec<u8>> = expected.iter().map(|&set| lists::reading(set, set, book.atoms)).collect();
             self.book(&book, &readings, &candidates, true)?;
         }
         for models in worked::MODELS {
@@ -649,7 +650,7 @@ impl<'c> Suite<'c> {
             let image = book.image();
             let set = |members| formula::set(models.atoms, members);
             let listed: Vec<Vec<u8>> =
-                models.pairs.iter().map(|&(here, there)| plain::reading(set(here), set(there), book.atoms)).collect();
+                models.pairs.iter().map(|&(here, there)| lists::reading(set(here), set(there), book.atoms)).collect();
             for reading in all_readings(book.atoms) {
                 let satisfied = self.accepted(Call::EvaluateTheory, &image, &reading)? == 1;
                 demand(satisfied == listed.contains(&reading), Call::EvaluateTheory, &image, || {
@@ -683,7 +684,7 @@ impl<'c> Suite<'c> {
             let (_, bytes) = self.output(Call::Translate, &image, &[], 16 + 10 * flat.rules.len())?;
             let mut expected = Vec::with_capacity(answer.result);
             for set in listed {
-                let (_, extended) = self.output(Call::Extend, &image, &plain::reading(set, set, atoms), flat.all)?;
+                let (_, extended) = self.output(Call::Extend, &image, &lists::reading(set, set, atoms), flat.all)?;
                 expected.push((0..flat.all).filter(|&atom| extended[atom] == 2).collect::<Vec<usize>>());
             }
             expected.sort_unstable();

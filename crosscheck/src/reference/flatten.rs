@@ -1,4 +1,5 @@
-use super::theory::{Node, Theory, MOST_NODES};
+use super::theory::{Theory, MOST_NODES};
+use crate::node::Node;
 
 /// What stands for a node in a flat rule: the number of an atom or label, or a constant, for which two numbers that no
 /// atom has are set aside.

@@ -6,8 +6,9 @@ mod theory;
 mod value;
 
 use crate::calls::{Answer, Calls};
+use crate::node::Node;
 use program::{Program, MOST_ALL};
-use theory::{Node, Theory, MOST_ATOMS, NO_VALUES};
+use theory::{Theory, MOST_ATOMS, NO_VALUES};
 
 pub const CALLS: Calls = Calls {
     name: "reference",

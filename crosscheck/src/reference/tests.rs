@@ -2,7 +2,7 @@
 
 use super::*;
 use crate::formula;
-use crate::plain::{Book, Node, Program, Rule};
+use crate::lists::{Book, Program, Rule};
 use crate::worked::CASES;
 
 fn accepted(result: usize) -> Answer {

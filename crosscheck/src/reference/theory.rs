@@ -1,5 +1,6 @@
 use super::value::Value;
 use super::{groups, half, refuse, word, Outcome, HEADER};
+use crate::node::Node;
 
 pub const MOST_ATOMS: usize = 1024;
 pub const MOST_NODES: usize = 1024;
@@ -10,18 +11,6 @@ pub struct Theory<'a> {
     pub atoms: usize,
     nodes: &'a [u8],
     roots: &'a [u8],
-}
-
-/// A node of a checked theory. Operands are numbers of earlier nodes.
-#[derive(Clone, Copy)]
-pub enum Node {
-    False,
-    True,
-    Atom(usize),
-    Not(usize),
-    And(usize, usize),
-    Or(usize, usize),
-    Implies(usize, usize),
 }
 
 /// The values of the nodes. One array serves all the evaluations of a call.

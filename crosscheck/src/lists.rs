@@ -1,19 +1,9 @@
 //! Books and programs as lists, and the meaning of both by the two worlds of here-and-there.
 //!
-//! Nothing here is shared with the reference: values are pairs of truths and no table of three values is used, flat
+//! Beside the type of a node nothing is shared with the reference: values are pairs of truths and no table of three values is used, flat
 //! rules are simplified in a separate pass, and answer sets are found by trying everything. It is slow on purpose.
 
-/// A node of a book; operands are numbers of earlier nodes.
-#[derive(Clone, Copy, Debug, PartialEq, Eq)]
-pub enum Node {
-    False,
-    True,
-    Atom(usize),
-    Not(usize),
-    And(usize, usize),
-    Or(usize, usize),
-    Implies(usize, usize),
-}
+use crate::node::Node;
 
 /// A theory: its number of atoms, its nodes and its roots.
 #[derive(Clone, Debug, Default, PartialEq, Eq)]
