@@ -1,7 +1,8 @@
 //! Books and programs as lists, and the meaning of both by the two worlds of here-and-there.
 //!
-//! Beside the type of a node nothing is shared with the reference: values are pairs of truths and no table of three values is used, flat
-//! rules are simplified in a separate pass, and answer sets are found by trying everything. It is slow on purpose.
+//! Beside the type of a node nothing is shared with the reference: values are pairs of truths and no table of three
+//! values is used, flat rules are simplified in a separate pass, and answer sets are found by trying everything. It is
+//! slow on purpose.
 
 use crate::node::Node;
 

@@ -62,8 +62,7 @@ impl<'a> Theory<'a> {
 
     /// The number of all atoms, labels included.
     pub fn all(&self) -> usize {
-        let labels: usize = groups::<6>(self.nodes).map(|node| [0, 0, 0, 1, 1, 1, 2][usize::from(node[0])]).sum();
-        self.atoms + labels
+        self.atoms + self.nodes().map(labels).sum::<usize>()
     }
 
     /// Fills in the value of every node under `reading`.
@@ -98,6 +97,15 @@ fn fits(node: &[u8; 6], own: usize, atoms: usize) -> bool {
             4..=6 => left < own && right < own,
             _ => false,
         }
+}
+
+/// How many labels a node takes.
+pub fn labels(node: Node) -> usize {
+    match node {
+        Node::False | Node::True | Node::Atom(_) => 0,
+        Node::Not(_) | Node::And(..) | Node::Or(..) => 1,
+        Node::Implies(..) => 2,
+    }
 }
 
 fn node(bytes: &[u8; 6]) -> Node {
