@@ -69,6 +69,16 @@ pub fn facts(random: &mut Random, atoms: usize, nodes: usize, truths: usize) -> 
     (book, set)
 }
 
+/// The book with the root `a or not a` for each of its atoms beside: where it had no root, every set is an answer set.
+pub fn free(mut book: Book) -> Book {
+    for atom in 0..book.atoms {
+        let own = book.nodes.len();
+        book.nodes.extend([Node::Atom(atom), Node::Not(own), Node::Or(own, own + 1)]);
+        book.roots.push(own + 2);
+    }
+    book
+}
+
 /// The book of `nodes` nodes with the longest program: one atom, then implications only.
 pub fn longest(random: &mut Random, atoms: usize, nodes: usize, roots: usize) -> Book {
     let mut book = Book { atoms, nodes: vec![Node::Atom(0)], roots: Vec::new() };
@@ -115,7 +125,7 @@ pub fn fact_program(random: &mut Random, all: usize, rules: usize, truths: usize
     }
     let step = program.rules.len() / truths.max(1);
     for (own, atom) in (0..all).filter(|&atom| set[atom] == 2).enumerate() {
-        program.rules[own * step] = Rule { heads: vec![atom], ..Rule::default() };
+        program.rules[own * step] = Rule::new(&[atom], &[], &[]);
     }
     (program, set)
 }

@@ -110,12 +110,7 @@ pub fn candidate(name: &'static str, nodes: usize, truths: usize) -> Input {
 
 /// Twelve atoms, each of them true or not, beside further nodes that no root uses: every set is an answer set.
 fn listing() -> Input {
-    let mut book = generate::book(&mut Random::new(13), 12, 28, 0);
-    for atom in 0..12 {
-        let own = book.nodes.len();
-        book.nodes.extend([Node::Atom(atom), Node::Not(own), Node::Or(own, own + 1)]);
-        book.roots.push(own + 2);
-    }
+    let book = generate::free(generate::book(&mut Random::new(13), 12, 28, 0));
     Input::new("12 atoms, 64 nodes", Call::ListSets, book.image(), vec![], 8192)
 }
 
@@ -124,7 +119,7 @@ fn flat_candidate() -> Input {
     let (mut program, set) = generate::fact_program(&mut Random::new(17), 200, 0, 16);
     let facts = std::mem::take(&mut program.rules);
     let outside = (0..200).find(|&atom| set[atom] == 0).expect("an atom outside");
-    let idle = Rule { heads: vec![0], positives: vec![outside], negatives: vec![1] };
+    let idle = Rule::new(&[0], &[outside], &[1]);
     program.rules = vec![idle; 1000];
     program.rules.extend(facts);
     Input::new("1,016 rules, 16 atoms true", Call::TestProgram, program.image(), set, 0)
