@@ -79,27 +79,6 @@ impl Book {
         bytes
     }
 
-    /// Reads an image that a check has accepted.
-    pub fn read(image: &[u8]) -> Book {
-        let (atoms, nodes, roots) = (get2(image, 0), get2(image, 2), get2(image, 4));
-        let node = |own: usize| {
-            let at = 16 + 6 * own;
-            let (left, right) = (get2(image, at + 2), get2(image, at + 4));
-            match image[at] {
-                0 => Node::False,
-                1 => Node::True,
-                2 => Node::Atom(left),
-                3 => Node::Not(left),
-                4 => Node::And(left, right),
-                5 => Node::Or(left, right),
-                6 => Node::Implies(left, right),
-                kind => panic!("kind {kind} in a checked image"),
-            }
-        };
-        let root = |own: usize| get2(image, 16 + 6 * nodes + 2 * own);
-        Book { atoms, nodes: (0..nodes).map(node).collect(), roots: (0..roots).map(root).collect() }
-    }
-
     /// For every node, whether it holds here and whether it holds there.
     pub fn truths(&self, here: &[bool], there: &[bool]) -> Vec<(bool, bool)> {
         let mut truths: Vec<(bool, bool)> = Vec::new();
@@ -297,7 +276,7 @@ pub fn worlds(reading: &[u8]) -> (Vec<bool>, Vec<bool>) {
 }
 
 /// The members of a set as a list of truths.
-pub fn members(set: Set, atoms: usize) -> Vec<bool> {
+fn members(set: Set, atoms: usize) -> Vec<bool> {
     (0..atoms).map(|atom| set >> atom & 1 == 1).collect()
 }
 

@@ -115,9 +115,9 @@ fn p6_bytes() {
 fn constants_drop_literals_or_whole_rules() {
     // Both sides of an implication constant: every pair of them, by the rules with the constants put in.
     let program = |left: Node, right: Node| {
-        let image = Book { atoms: 0, nodes: vec![left, right, Node::Implies(0, 1)], roots: vec![] }.image();
-        let read = Program::read(&translated(&image).1);
-        assert_eq!(read, Book::read(&image).flat());
+        let book = Book { atoms: 0, nodes: vec![left, right, Node::Implies(0, 1)], roots: vec![] };
+        let read = Program::read(&translated(&book.image()).1);
+        assert_eq!(read, book.flat());
         read.rules.iter().map(|rule| (rule.heads.clone(), rule.positives.clone())).collect::<Vec<_>>()
     };
     let (l, m) = (0, 1);

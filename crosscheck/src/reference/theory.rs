@@ -4,7 +4,7 @@ use crate::node::Node;
 
 pub const MOST_ATOMS: usize = 1024;
 pub const MOST_NODES: usize = 1024;
-pub const MOST_ROOTS: usize = 256;
+const MOST_ROOTS: usize = 256;
 
 /// A theory image that has passed its check, split into its parts.
 pub struct Theory<'a> {
