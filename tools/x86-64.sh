@@ -1,7 +1,7 @@
-# Sourced by what links the library's archive, which is for x86-64 Linux. Sets `cc`, `rustc` (with its target's words) and
-# `run`, what a linked program is started with. On another processor these are Debian's cross compiler, its Rust with the
-# x86-64 library, and an emulator; those that are missing are installed where that can be done. Ends the caller with
-# status 1 and a line that names what is missing, where something still is.
+# Sourced by what links the library's archive, which is for x86-64 Linux. Sets `cc`, `rustc` (with its target's words),
+# `run`, what a linked program is started with, and `emulator`. On another processor these are Debian's cross compiler, its
+# Rust with the x86-64 library, and an emulator; those that are missing are installed where that can be done. Ends the
+# caller with status 1 and a line that names what is missing, where something still is.
 
 x86_64_rustc() { # the first rustc on the path that has the x86-64 library
     local each
@@ -34,6 +34,9 @@ if [ -n "$(x86_64_missing)" ]; then
     echo "missing, to link and run x86-64 programs on $(uname -m): $(echo $(x86_64_missing))" >&2
     exit 1
 fi
+# Without erms the C library clears and copies by vector instructions. By one repeated instruction, as it would with it, the
+# emulator goes byte by byte, as no processor does.
+emulator=(qemu-x86_64 -cpu max,-erms)
 if [ "$(uname -m)" = x86_64 ]; then
     cc=(cc)
     rustc=(rustc)
@@ -41,5 +44,5 @@ if [ "$(uname -m)" = x86_64 ]; then
 else
     cc=(x86_64-linux-gnu-gcc)
     rustc=("$(x86_64_rustc)" --target x86_64-unknown-linux-gnu -C linker=x86_64-linux-gnu-gcc)
-    run=(qemu-x86_64)
+    run=("${emulator[@]}")
 fi

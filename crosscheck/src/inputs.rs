@@ -26,20 +26,25 @@ impl Input {
     }
 }
 
+const SMALL: &str = "3 atoms, 5 nodes";
+const SMALL_FLAT: &str = "7 atoms, 13 rules";
+const LARGE: &str = "1,024 atoms and nodes, 256 roots";
+const LARGE_FLAT: &str = "over 4,000 rules";
+
 /// Each call on a small input and on a large one.
 pub fn all() -> Vec<Input> {
     let small = formula::book("p q r", "(r -> q) -> p");
     let (large, reading) = mixed(1024, 256);
     let longest = generate::longest(&mut Random::new(5), 1024, 1024, 256);
-    let mut inputs = on_book("3 atoms, 5 nodes", "7 atoms, 13 rules", &small, vec![2, 0, 0]);
-    inputs.extend(on_book("1,024 atoms and nodes, 256 roots", "over 4,000 rules", &large, reading));
+    let mut inputs = on_book(SMALL, SMALL_FLAT, &small, vec![2, 0, 0]);
+    inputs.extend(on_book(LARGE, LARGE_FLAT, &large, reading));
     inputs.extend([
         translation("the longest: 6,394 rules", &longest),
-        Input::new("3 atoms, 5 nodes", Call::TestTheory, small.image(), vec![2, 0, 0], 0),
+        Input::new(SMALL, Call::TestTheory, small.image(), vec![2, 0, 0], 0),
         candidate("1,024 nodes, 16 atoms true", 1024, 16),
-        Input::new("3 atoms, 5 nodes", Call::ListSets, small.image(), vec![], 2),
+        Input::new(SMALL, Call::ListSets, small.image(), vec![], 2),
         listing(),
-        Input::new("7 atoms, 13 rules", Call::TestProgram, small.flat().image(), extended(&small, &[2, 0, 0]), 0),
+        Input::new(SMALL_FLAT, Call::TestProgram, small.flat().image(), extended(&small, &[2, 0, 0]), 0),
         flat_candidate(),
     ]);
     inputs.sort_by_key(|input| input.call as usize);
@@ -69,8 +74,8 @@ fn translation(name: &'static str, book: &Book) -> Input {
     Input::new(name, Call::Translate, book.image(), vec![], room)
 }
 
-/// Translations of so many nodes, with the numbers of their rules.
-pub fn translations(nodes: usize) -> (Input, usize) {
+/// The translation of a book of so many nodes, with the number of its rules.
+pub fn mixed_translation(nodes: usize) -> (Input, usize) {
     let (book, _) = mixed(nodes, 0);
     (translation("", &book), book.flat().rules.len())
 }
@@ -135,7 +140,7 @@ mod tests {
         for input in all().iter().filter(|input| !input.call.tests() && input.call != Call::ListSets) {
             let answer = input.run(&reference::CALLS, &mut vec![0; input.room]);
             assert_eq!(answer.number, 0, "{}, {}", input.call.name(), input.name);
-            assert!(input.name != "over 4,000 rules" || input.image.len() > 16 + 10 * 4000);
+            assert!(input.name != LARGE_FLAT || input.image.len() > 16 + 10 * 4000);
             assert!(answer.result > 0, "{}, {}", input.call.name(), input.name);
         }
     }

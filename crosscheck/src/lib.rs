@@ -6,6 +6,7 @@
 //! * [`compare`]: runs one call on both sides and looks at every byte.
 //! * [`suite`]: the inputs on which the two sides are compared.
 //! * [`lists`]: books and programs as lists, with slow definitions that share no code with the reference.
+//! * [`inputs`], [`tables`]: what the benchmark and the instruction counter measure, and what they print.
 
 #![deny(unsafe_code)]
 

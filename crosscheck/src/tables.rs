@@ -18,22 +18,32 @@ pub struct Measure<'m> {
 }
 
 impl Measure<'_> {
-    /// Every call, then how translation and the candidate test grow.
     pub fn print(&mut self) {
+        self.calls();
+        self.translations();
+        self.candidates();
+    }
+
+    fn calls(&mut self) {
         println!("{:<17} {:<34} {}", "call", "input", columns());
         for input in inputs::all() {
             let costs = (self.cost)(&input);
             println!("{:<17} {:<34} {}", input.call.name(), input.name, self.cells(&costs));
         }
+    }
 
+    fn translations(&mut self) {
         println!("\ntranslation as the number of nodes grows");
         println!("{:>6} {:>8} {}  {} a node", "nodes", "rules", columns(), self.unit);
         for nodes in [64, 128, 256, 512, 1024] {
-            let (input, rules) = inputs::translations(nodes);
+            let (input, rules) = inputs::mixed_translation(nodes);
             let costs = (self.cost)(&input);
             println!("{nodes:>6} {rules:>8} {}  {}", self.cells(&costs), each(&costs, nodes));
         }
+    }
 
+    /// A candidate is tested under itself and its proper subsets, all in all a power of two.
+    fn candidates(&mut self) {
         println!("\ncandidate test over 256 nodes as the number of true atoms grows");
         println!("{:>6} {:>8} {}  {} a subset", "true", "subsets", columns(), self.unit);
         for truths in [4, 6, 8, 10, 12, 14, 16] {
