@@ -70,6 +70,7 @@ extern "C" fn count_block(_plugin: u64, block: *mut Block) {
     }
 }
 
+/// Before a system call: at sched_yield, writes the count and begins a new one.
 #[allow(clippy::too_many_arguments)]
 extern "C" fn report(_: u64, _: c_uint, call: i64, _: u64, _: u64, _: u64, _: u64, _: u64, _: u64, _: u64, _: u64) {
     if call == SCHED_YIELD {
