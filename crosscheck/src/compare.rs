@@ -19,7 +19,7 @@ pub type Checked<T> = Result<T, Finding>;
 /// Bytes on both sides of a lent buffer that no call may touch.
 const GUARD: usize = 64;
 /// The largest buffer that is ever lent.
-pub const MOST_ROOM: usize = 70_000;
+const MOST_ROOM: usize = 70_000;
 const SHIFTS: usize = 251;
 /// Buffers up to this size are printed whole.
 const SHOWN: usize = 256;

@@ -3,14 +3,11 @@
 //! Where several rows are to be broken in one image, the rows that change its length come last, and row 1 or 21 after
 //! all others.
 
+use crate::lists::get2;
 use crate::random::Random;
 
 fn set2(image: &mut [u8], at: usize, number: usize) {
     image[at..at + 2].copy_from_slice(&(number as u16).to_le_bytes());
-}
-
-fn get2(image: &[u8], at: usize) -> usize {
-    usize::from(u16::from_le_bytes([image[at], image[at + 1]]))
 }
 
 /// A 2-byte number that is at least `low`, often only just.

@@ -3,7 +3,8 @@
 //! From the tightest to the loosest: `~`, `&`, `|`, and then `->`, `<-`, `<->`, which stand once in a bracket. The
 //! constants are `false` and `true`; every other word is an atom. A semicolon parts the formulas of a theory.
 
-use crate::plain::{Book, Node, Set};
+use crate::lists::{Book, Set};
+use crate::node::Node;
 
 /// The book of a text, with the atoms numbered as they stand in `atoms`. Panics on a text that is wrong.
 pub fn book(atoms: &str, text: &str) -> Book {

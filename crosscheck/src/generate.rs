@@ -1,11 +1,12 @@
 //! Random books, programs and interpretations.
 
-use crate::plain::{self, Book, Node, Program, Rule};
+use crate::lists::{self, Book, Program, Rule};
+use crate::node::Node;
 use crate::random::Random;
 
 /// Moves the roots of a book to nodes that hold under `reading`, if there are any.
 pub fn satisfy(random: &mut Random, book: &mut Book, reading: &[u8]) {
-    let (here, there) = plain::worlds(reading);
+    let (here, there) = lists::worlds(reading);
     let truths = book.truths(&here, &there);
     let holding: Vec<usize> = (0..truths.len()).filter(|&node| truths[node].0).collect();
     if !holding.is_empty() {
@@ -68,6 +69,16 @@ pub fn facts(random: &mut Random, atoms: usize, nodes: usize, truths: usize) -> 
     (book, set)
 }
 
+/// The book with the root `a or not a` for each of its atoms beside: where it had no root, every set is an answer set.
+pub fn free(mut book: Book) -> Book {
+    for atom in 0..book.atoms {
+        let own = book.nodes.len();
+        book.nodes.extend([Node::Atom(atom), Node::Not(own), Node::Or(own, own + 1)]);
+        book.roots.push(own + 2);
+    }
+    book
+}
+
 /// The book of `nodes` nodes with the longest program: one atom, then implications only.
 pub fn longest(random: &mut Random, atoms: usize, nodes: usize, roots: usize) -> Book {
     let mut book = Book { atoms, nodes: vec![Node::Atom(0)], roots: Vec::new() };
@@ -114,7 +125,7 @@ pub fn fact_program(random: &mut Random, all: usize, rules: usize, truths: usize
     }
     let step = program.rules.len() / truths.max(1);
     for (own, atom) in (0..all).filter(|&atom| set[atom] == 2).enumerate() {
-        program.rules[own * step] = Rule { heads: vec![atom], ..Rule::default() };
+        program.rules[own * step] = Rule::new(&[atom], &[], &[]);
     }
     (program, set)
 }

@@ -5,7 +5,8 @@
 //! * [`library`]: the same nine calls of the library under test (feature `library`).
 //! * [`compare`]: runs one call on both sides and looks at every byte.
 //! * [`suite`]: the inputs on which the two sides are compared.
-//! * [`plain`]: books and programs as lists, with slow definitions that share no code with the reference.
+//! * [`lists`]: books and programs as lists, with slow definitions that share no code with the reference.
+//! * [`inputs`], [`tables`]: what the benchmark and the instruction counter measure, and what they print.
 
 #![deny(unsafe_code)]
 
@@ -14,14 +15,17 @@ pub mod compare;
 pub mod damage;
 pub mod formula;
 pub mod generate;
+pub mod inputs;
 #[cfg(feature = "library")]
 pub mod library;
-pub mod plain;
+pub mod lists;
+pub mod node;
 pub mod random;
 pub mod reference;
 pub mod solver;
 pub mod stack;
 pub mod suite;
+pub mod tables;
 pub mod worked;
 
 /// The library under test, where this build links it.

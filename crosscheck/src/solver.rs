@@ -1,6 +1,6 @@
 //! Flat programs as text for the solver clingo, and its output read back.
 
-use crate::plain::{Program, Rule};
+use crate::lists::{Program, Rule};
 use std::io::{Error, ErrorKind, Result, Write};
 use std::process::{Command, Stdio};
 
@@ -72,12 +72,12 @@ mod tests {
 
     #[test]
     fn writes_rules() {
-        let make = |heads: &[usize], positives: &[usize], negatives: &[usize]| Rule {
-            heads: heads.to_vec(),
-            positives: positives.to_vec(),
-            negatives: negatives.to_vec(),
-        };
-        let rules = vec![make(&[0, 2], &[], &[]), make(&[1], &[0], &[2]), make(&[], &[0, 1], &[]), make(&[], &[], &[])];
+        let rules = vec![
+            Rule::new(&[0, 2], &[], &[]),
+            Rule::new(&[1], &[0], &[2]),
+            Rule::new(&[], &[0, 1], &[]),
+            Rule::new(&[], &[], &[]),
+        ];
         let program = Program { atoms: 1, all: 3, rules };
         assert_eq!(text(&program), "x0 | x2.\nx1 :- x0, not x2.\n :- x0, x1.\n :- .\n");
     }

@@ -1,86 +1,115 @@
-use super::theory::{Node, Theory, MOST_NODES};
+use super::theory::{labels, Theory, MOST_NODES};
+use crate::node::Node;
 
-/// What stands for a node in a flat rule: the number of an atom or label, or a constant, for which two numbers that no
-/// atom has are set aside.
+/// What stands for a node in a flat rule.
 #[derive(Clone, Copy, PartialEq, Eq)]
-struct Term(u16);
-
-impl Term {
-    const FALSE: Term = Term(u16::MAX);
-    const TRUE: Term = Term(u16::MAX - 1);
+enum Term {
+    False,
+    True,
+    /// The number of an atom or label.
+    Atom(u16),
 }
 
-/// Where the rules of a theory go, before their constants are taken out. Every rule is written with fixed numbers of
-/// terms, so that once inlined no loop is left.
+/// In a list of terms the constants are two numbers that no atom has.
+const FALSE: u16 = u16::MAX;
+const TRUE: u16 = u16::MAX - 1;
+
+/// The terms of a theory's nodes, and how much there is to write.
+pub struct Plan {
+    terms: [u16; MOST_NODES],
+    /// The number of all atoms, labels included.
+    pub all: usize,
+    pub rules: usize,
+}
+
+impl Plan {
+    fn term(&self, node: usize) -> Term {
+        match self.terms[node] {
+            FALSE => Term::False,
+            TRUE => Term::True,
+            atom => Term::Atom(atom),
+        }
+    }
+}
+
+/// Numbers the labels and counts the rules.
+pub fn plan(theory: &Theory) -> Plan {
+    let mut plan = Plan { terms: [0; MOST_NODES], all: theory.atoms, rules: 0 };
+    let mut counter = Counter { rules: 0 };
+    for (own, node) in theory.nodes().enumerate() {
+        plan.terms[own] = match node {
+            Node::False => FALSE,
+            Node::True => TRUE,
+            Node::Atom(atom) => atom as u16,
+            _ => plan.all as u16,
+        };
+        plan.all += labels(node);
+        node_rules(own, node, &plan, &mut counter);
+    }
+    root_rules(theory, &plan, &mut counter);
+    Plan { rules: counter.rules, ..plan }
+}
+
+/// Writes the rules, ten bytes each, from the start of `out` on.
+pub fn write(theory: &Theory, plan: &Plan, out: &mut [u8]) {
+    let mut writer = Writer { free: out.chunks_exact_mut(10) };
+    for (own, node) in theory.nodes().enumerate() {
+        node_rules(own, node, plan, &mut writer);
+    }
+    root_rules(theory, plan, &mut writer);
+}
+
+/// Where rules go before their constants are taken out. Every rule is written with fixed numbers of terms, so that once
+/// inlined no loop is left.
 trait Sink {
     fn rule(&mut self, heads: &[Term], positives: &[Term], negatives: &[Term]);
 }
 
-/// The number of rules that `write` will write.
-pub fn count(theory: &Theory) -> usize {
-    let mut counter = Counter { rules: 0 };
-    flatten(theory, &mut counter);
-    counter.rules
-}
-
-/// Writes the rules, ten bytes each, from the start of `out` on.
-pub fn write(theory: &Theory, out: &mut [u8]) {
-    flatten(theory, &mut Writer { free: out.chunks_exact_mut(10) });
-}
-
-fn flatten(theory: &Theory, sink: &mut impl Sink) {
-    let mut terms = [Term::FALSE; MOST_NODES];
-    let mut next = theory.atoms as u16;
-    let mut label = || {
-        next += 1;
-        Term(next - 1)
-    };
-    for (own, node) in theory.nodes().enumerate() {
-        terms[own] = match node {
-            Node::False => Term::FALSE,
-            Node::True => Term::TRUE,
-            Node::Atom(atom) => Term(atom as u16),
-            Node::Not(x) => {
-                let (x, l) = (terms[x], label());
-                sink.rule(&[l], &[], &[x]);
-                sink.rule(&[], &[l, x], &[]);
-                l
-            }
-            Node::And(x, y) => {
-                let (x, y, l) = (terms[x], terms[y], label());
-                sink.rule(&[x], &[l], &[]);
-                sink.rule(&[y], &[l], &[]);
-                sink.rule(&[l], &[x, y], &[]);
-                l
-            }
-            Node::Or(x, y) => {
-                let (x, y, l) = (terms[x], terms[y], label());
-                sink.rule(&[l], &[x], &[]);
-                sink.rule(&[l], &[y], &[]);
-                sink.rule(&[x, y], &[l], &[]);
-                l
-            }
-            Node::Implies(x, y) => {
-                let (x, y, l, m) = (terms[x], terms[y], label(), label());
-                sink.rule(&[y], &[l, x], &[]);
-                sink.rule(&[l], &[], &[x]);
-                sink.rule(&[l], &[y], &[]);
-                sink.rule(&[x, m, l], &[], &[]);
-                sink.rule(&[m], &[], &[y]);
-                sink.rule(&[], &[m, y], &[]);
-                l
-            }
-        };
+#[inline(always)]
+fn node_rules(own: usize, node: Node, plan: &Plan, sink: &mut impl Sink) {
+    // A leaf has no labels, and these are not used.
+    let (l, m) = (Term::Atom(plan.terms[own]), Term::Atom(plan.terms[own].wrapping_add(1)));
+    match node {
+        Node::False | Node::True | Node::Atom(_) => {}
+        Node::Not(x) => {
+            let x = plan.term(x);
+            sink.rule(&[l], &[], &[x]);
+            sink.rule(&[], &[l, x], &[]);
+        }
+        Node::And(x, y) => {
+            let (x, y) = (plan.term(x), plan.term(y));
+            sink.rule(&[x], &[l], &[]);
+            sink.rule(&[y], &[l], &[]);
+            sink.rule(&[l], &[x, y], &[]);
+        }
+        Node::Or(x, y) => {
+            let (x, y) = (plan.term(x), plan.term(y));
+            sink.rule(&[l], &[x], &[]);
+            sink.rule(&[l], &[y], &[]);
+            sink.rule(&[x, y], &[l], &[]);
+        }
+        Node::Implies(x, y) => {
+            let (x, y) = (plan.term(x), plan.term(y));
+            sink.rule(&[y], &[l, x], &[]);
+            sink.rule(&[l], &[], &[x]);
+            sink.rule(&[l], &[y], &[]);
+            sink.rule(&[x, m, l], &[], &[]);
+            sink.rule(&[m], &[], &[y]);
+            sink.rule(&[], &[m, y], &[]);
+        }
     }
+}
+
+fn root_rules(theory: &Theory, plan: &Plan, sink: &mut impl Sink) {
     for root in theory.roots() {
-        sink.rule(&[terms[root]], &[], &[]);
+        sink.rule(&[plan.term(root)], &[], &[]);
     }
 }
 
 /// Whether a constant makes the rule hold whatever the atoms are, so that it is left out.
 #[inline]
 fn idle(heads: &[Term], positives: &[Term], negatives: &[Term]) -> bool {
-    heads.contains(&Term::TRUE) || positives.contains(&Term::FALSE) || negatives.contains(&Term::TRUE)
+    heads.contains(&Term::True) || positives.contains(&Term::False) || negatives.contains(&Term::True)
 }
 
 struct Counter {
@@ -111,9 +140,9 @@ impl Sink for Writer<'_> {
         let mut at = 4;
         let mut put = |part: usize, terms: &[Term]| {
             for &term in terms {
-                if term != Term::FALSE && term != Term::TRUE {
+                if let Term::Atom(atom) = term {
                     rule[part] += 1;
-                    rule[at..at + 2].copy_from_slice(&term.0.to_le_bytes());
+                    rule[at..at + 2].copy_from_slice(&atom.to_le_bytes());
                     at += 2;
                 }
             }

@@ -6,8 +6,9 @@ mod theory;
 mod value;
 
 use crate::calls::{Answer, Calls};
+use crate::node::Node;
 use program::{Program, MOST_ALL};
-use theory::{Node, Theory, MOST_ATOMS, NO_VALUES};
+use theory::{Theory, MOST_ATOMS, NO_VALUES};
 
 pub const CALLS: Calls = Calls {
     name: "reference",
@@ -105,24 +106,25 @@ fn try_evaluate_theory(theory: &[u8], reading: &[u8]) -> Outcome<usize> {
 
 fn try_translate(theory: &[u8], out: &mut [u8]) -> Outcome<usize> {
     let theory = Theory::check(theory)?;
-    let all = check_all(&theory)?;
-    let rules = flatten::count(&theory);
-    let out = check_room(out, HEADER + 10 * rules)?;
+    let plan = flatten::plan(&theory);
+    check_all(plan.all)?;
+    let out = check_room(out, HEADER + 10 * plan.rules)?;
     let length = out.len() as u32;
     let (header, body) = out.split_at_mut(HEADER);
     header[0..2].copy_from_slice(&(theory.atoms as u16).to_le_bytes());
-    header[2..4].copy_from_slice(&(all as u16).to_le_bytes());
-    header[4..6].copy_from_slice(&(rules as u16).to_le_bytes());
+    header[2..4].copy_from_slice(&(plan.all as u16).to_le_bytes());
+    header[4..6].copy_from_slice(&(plan.rules as u16).to_le_bytes());
     header[6..8].fill(0);
     header[8..12].copy_from_slice(&(HEADER as u32).to_le_bytes());
     header[12..16].copy_from_slice(&length.to_le_bytes());
-    flatten::write(&theory, body);
-    Ok(rules)
+    flatten::write(&theory, &plan, body);
+    Ok(plan.rules)
 }
 
 fn try_extend(theory: &[u8], reading: &[u8], out: &mut [u8]) -> Outcome<usize> {
     let theory = Theory::check(theory)?;
-    let all = check_all(&theory)?;
+    let all = theory.all();
+    check_all(all)?;
     check_reading(reading, theory.atoms)?;
     let out = check_room(out, all)?;
     let mut values = NO_VALUES;
@@ -193,10 +195,10 @@ fn try_test_program(program: &[u8], candidate: &[u8]) -> Outcome<usize> {
 }
 
 /// Row 14.
-fn check_all(theory: &Theory) -> Outcome<usize> {
-    match theory.all() {
-        all if all > MOST_ALL => refuse(14, all),
-        all => Ok(all),
+fn check_all(all: usize) -> Outcome<()> {
+    match all > MOST_ALL {
+        true => refuse(14, all),
+        false => Ok(()),
     }
 }
 

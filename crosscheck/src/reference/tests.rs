@@ -1,9 +1,8 @@
 //! The facts that the specification lists, one by one.
 
 use super::*;
-use crate::formula;
-use crate::plain::{Book, Node, Program, Rule};
-use crate::worked::CASES;
+use crate::lists::{Book, Program, Rule};
+use crate::{formula, worked};
 
 fn accepted(result: usize) -> Answer {
     Answer { number: 0, place: 0, result }
@@ -36,11 +35,9 @@ fn p1() -> Book {
 
 #[test]
 fn answer_sets_of_the_bench_cases() {
-    for case in CASES {
-        let book = formula::book(case.atoms, case.theory);
-        let expected: Vec<u32> = case.sets.iter().map(|set| formula::set(case.atoms, set)).collect();
-        assert_eq!(listed(&book.image()), expected, "{}", case.source);
-        assert_eq!(book.answer_sets(), expected, "{}", case.source);
+    for case in worked::cases() {
+        assert_eq!(listed(&case.book.image()), case.sets, "{}", case.source);
+        assert_eq!(case.book.answer_sets(), case.sets, "{}", case.source);
     }
 }
 
@@ -91,21 +88,16 @@ fn p5_rules_in_order() {
     let nodes = vec![Node::Atom(0), Node::False, Node::Implies(0, 1)];
     let image = Book { atoms: 1, nodes, roots: vec![2] }.image();
     let (_, program) = translated(&image);
-    let rule = |heads: &[usize], positives: &[usize], negatives: &[usize]| Rule {
-        heads: heads.to_vec(),
-        positives: positives.to_vec(),
-        negatives: negatives.to_vec(),
-    };
     let read = Program::read(&program);
     assert_eq!((read.atoms, read.all), (1, 3));
     assert_eq!(
         read.rules,
         [
-            rule(&[], &[1, 0], &[]),
-            rule(&[1], &[], &[0]),
-            rule(&[0, 2, 1], &[], &[]),
-            rule(&[2], &[], &[]),
-            rule(&[1], &[], &[])
+            Rule::new(&[], &[1, 0], &[]),
+            Rule::new(&[1], &[], &[0]),
+            Rule::new(&[0, 2, 1], &[], &[]),
+            Rule::new(&[2], &[], &[]),
+            Rule::new(&[1], &[], &[])
         ]
     );
 }
@@ -123,9 +115,9 @@ fn p6_bytes() {
 fn constants_drop_literals_or_whole_rules() {
     // Both sides of an implication constant: every pair of them, by the rules with the constants put in.
     let program = |left: Node, right: Node| {
-        let image = Book { atoms: 0, nodes: vec![left, right, Node::Implies(0, 1)], roots: vec![] }.image();
-        let read = Program::read(&translated(&image).1);
-        assert_eq!(read, Book::read(&image).flat());
+        let book = Book { atoms: 0, nodes: vec![left, right, Node::Implies(0, 1)], roots: vec![] };
+        let read = Program::read(&translated(&book.image()).1);
+        assert_eq!(read, book.flat());
         read.rules.iter().map(|rule| (rule.heads.clone(), rule.positives.clone())).collect::<Vec<_>>()
     };
     let (l, m) = (0, 1);

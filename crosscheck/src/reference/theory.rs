@@ -1,27 +1,16 @@
 use super::value::Value;
 use super::{groups, half, refuse, word, Outcome, HEADER};
+use crate::node::Node;
 
 pub const MOST_ATOMS: usize = 1024;
 pub const MOST_NODES: usize = 1024;
-pub const MOST_ROOTS: usize = 256;
+const MOST_ROOTS: usize = 256;
 
 /// A theory image that has passed its check, split into its parts.
 pub struct Theory<'a> {
     pub atoms: usize,
     nodes: &'a [u8],
     roots: &'a [u8],
-}
-
-/// A node of a checked theory. Operands are numbers of earlier nodes.
-#[derive(Clone, Copy)]
-pub enum Node {
-    False,
-    True,
-    Atom(usize),
-    Not(usize),
-    And(usize, usize),
-    Or(usize, usize),
-    Implies(usize, usize),
 }
 
 /// The values of the nodes. One array serves all the evaluations of a call.
@@ -73,8 +62,7 @@ impl<'a> Theory<'a> {
 
     /// The number of all atoms, labels included.
     pub fn all(&self) -> usize {
-        let labels: usize = groups::<6>(self.nodes).map(|node| [0, 0, 0, 1, 1, 1, 2][usize::from(node[0])]).sum();
-        self.atoms + labels
+        self.atoms + self.nodes().map(labels).sum::<usize>()
     }
 
     /// Fills in the value of every node under `reading`.
@@ -109,6 +97,15 @@ fn fits(node: &[u8; 6], own: usize, atoms: usize) -> bool {
             4..=6 => left < own && right < own,
             _ => false,
         }
+}
+
+/// How many labels a node takes.
+pub fn labels(node: Node) -> usize {
+    match node {
+        Node::False | Node::True | Node::Atom(_) => 0,
+        Node::Not(_) | Node::And(..) | Node::Or(..) => 1,
+        Node::Implies(..) => 2,
+    }
 }
 
 fn node(bytes: &[u8; 6]) -> Node {

@@ -1,19 +1,10 @@
 //! Books and programs as lists, and the meaning of both by the two worlds of here-and-there.
 //!
-//! Nothing here is shared with the reference: values are pairs of truths and no table of three values is used, flat
-//! rules are simplified in a separate pass, and answer sets are found by trying everything. It is slow on purpose.
+//! Beside the type of a node nothing is shared with the reference: values are pairs of truths and no table of three
+//! values is used, flat rules are simplified in a separate pass, and answer sets are found by trying everything. It is
+//! slow on purpose.
 
-/// A node of a book; operands are numbers of earlier nodes.
-#[derive(Clone, Copy, Debug, PartialEq, Eq)]
-pub enum Node {
-    False,
-    True,
-    Atom(usize),
-    Not(usize),
-    And(usize, usize),
-    Or(usize, usize),
-    Implies(usize, usize),
-}
+use crate::node::Node;
 
 /// A theory: its number of atoms, its nodes and its roots.
 #[derive(Clone, Debug, Default, PartialEq, Eq)]
@@ -52,7 +43,8 @@ fn put4(bytes: &mut Vec<u8>, number: usize) {
     put2(bytes, number / 65536);
 }
 
-fn get2(bytes: &[u8], at: usize) -> usize {
+/// The 2-byte number at `at`.
+pub fn get2(bytes: &[u8], at: usize) -> usize {
     bytes[at] as usize + 256 * bytes[at + 1] as usize
 }
 
@@ -85,27 +77,6 @@ impl Book {
             put2(&mut bytes, root);
         }
         bytes
-    }
-
-    /// Reads an image that a check has accepted.
-    pub fn read(image: &[u8]) -> Book {
-        let (atoms, nodes, roots) = (get2(image, 0), get2(image, 2), get2(image, 4));
-        let node = |own: usize| {
-            let at = 16 + 6 * own;
-            let (left, right) = (get2(image, at + 2), get2(image, at + 4));
-            match image[at] {
-                0 => Node::False,
-                1 => Node::True,
-                2 => Node::Atom(left),
-                3 => Node::Not(left),
-                4 => Node::And(left, right),
-                5 => Node::Or(left, right),
-                6 => Node::Implies(left, right),
-                kind => panic!("kind {kind} in a checked image"),
-            }
-        };
-        let root = |own: usize| get2(image, 16 + 6 * nodes + 2 * own);
-        Book { atoms, nodes: (0..nodes).map(node).collect(), roots: (0..roots).map(root).collect() }
     }
 
     /// For every node, whether it holds here and whether it holds there.
@@ -175,59 +146,24 @@ impl Book {
         }
     }
 
-    /// The flat program of the book.
+    /// The flat program of the book: the rules with constants in them, and then without.
     pub fn flat(&self) -> Program {
-        const FALSE: usize = usize::MAX;
-        const TRUE: usize = usize::MAX - 1;
         let mut all = self.atoms;
         let mut terms: Vec<usize> = Vec::new();
         let mut rules: Vec<Rule> = Vec::new();
-        let mut rule = |heads: &[usize], positives: &[usize], negatives: &[usize]| {
-            rules.push(Rule { heads: heads.to_vec(), positives: positives.to_vec(), negatives: negatives.to_vec() })
-        };
         for &node in &self.nodes {
-            let l = all;
-            all += match node {
-                Node::False | Node::True | Node::Atom(_) => 0,
-                Node::Not(_) | Node::And(..) | Node::Or(..) => 1,
-                Node::Implies(..) => 2,
+            rules.extend(node_rules(node, &terms, all));
+            let (term, labels) = match node {
+                Node::False => (FALSE, 0),
+                Node::True => (TRUE, 0),
+                Node::Atom(a) => (a, 0),
+                Node::Not(_) | Node::And(..) | Node::Or(..) => (all, 1),
+                Node::Implies(..) => (all, 2),
             };
-            terms.push(match node {
-                Node::False => FALSE,
-                Node::True => TRUE,
-                Node::Atom(a) => a,
-                _ => l,
-            });
-            match node {
-                Node::False | Node::True | Node::Atom(_) => {}
-                Node::Not(x) => {
-                    rule(&[l], &[], &[terms[x]]);
-                    rule(&[], &[l, terms[x]], &[]);
-                }
-                Node::And(x, y) => {
-                    rule(&[terms[x]], &[l], &[]);
-                    rule(&[terms[y]], &[l], &[]);
-                    rule(&[l], &[terms[x], terms[y]], &[]);
-                }
-                Node::Or(x, y) => {
-                    rule(&[l], &[terms[x]], &[]);
-                    rule(&[l], &[terms[y]], &[]);
-                    rule(&[terms[x], terms[y]], &[l], &[]);
-                }
-                Node::Implies(x, y) => {
-                    let m = l + 1;
-                    rule(&[terms[y]], &[l, terms[x]], &[]);
-                    rule(&[l], &[], &[terms[x]]);
-                    rule(&[l], &[terms[y]], &[]);
-                    rule(&[terms[x], m, l], &[], &[]);
-                    rule(&[m], &[], &[terms[y]]);
-                    rule(&[], &[m, terms[y]], &[]);
-                }
-            }
+            terms.push(term);
+            all += labels;
         }
-        for &root in &self.roots {
-            rule(&[terms[root]], &[], &[]);
-        }
+        rules.extend(self.roots.iter().map(|&root| Rule::new(&[terms[root]], &[], &[])));
         rules.retain(|rule| {
             !rule.heads.contains(&TRUE) && !rule.positives.contains(&FALSE) && !rule.negatives.contains(&TRUE)
         });
@@ -237,6 +173,47 @@ impl Book {
             rule.negatives.retain(|&term| term != FALSE);
         }
         Program { atoms: self.atoms, all, rules }
+    }
+}
+
+/// What stands for a constant where the number of an atom is expected.
+const FALSE: usize = usize::MAX;
+const TRUE: usize = usize::MAX - 1;
+
+/// The rules of a node whose first label is `l`; constants are still in them.
+fn node_rules(node: Node, terms: &[usize], l: usize) -> Vec<Rule> {
+    let m = l + 1;
+    match node {
+        Node::False | Node::True | Node::Atom(_) => vec![],
+        Node::Not(x) => {
+            let x = terms[x];
+            vec![Rule::new(&[l], &[], &[x]), Rule::new(&[], &[l, x], &[])]
+        }
+        Node::And(x, y) => {
+            let (x, y) = (terms[x], terms[y]);
+            vec![Rule::new(&[x], &[l], &[]), Rule::new(&[y], &[l], &[]), Rule::new(&[l], &[x, y], &[])]
+        }
+        Node::Or(x, y) => {
+            let (x, y) = (terms[x], terms[y]);
+            vec![Rule::new(&[l], &[x], &[]), Rule::new(&[l], &[y], &[]), Rule::new(&[x, y], &[l], &[])]
+        }
+        Node::Implies(x, y) => {
+            let (x, y) = (terms[x], terms[y]);
+            vec![
+                Rule::new(&[y], &[l, x], &[]),
+                Rule::new(&[l], &[], &[x]),
+                Rule::new(&[l], &[y], &[]),
+                Rule::new(&[x, m, l], &[], &[]),
+                Rule::new(&[m], &[], &[y]),
+                Rule::new(&[], &[m, y], &[]),
+            ]
+        }
+    }
+}
+
+impl Rule {
+    pub fn new(heads: &[usize], positives: &[usize], negatives: &[usize]) -> Rule {
+        Rule { heads: heads.to_vec(), positives: positives.to_vec(), negatives: negatives.to_vec() }
     }
 }
 
@@ -269,11 +246,7 @@ impl Program {
             let heads = image[at] as usize;
             let positives = heads + image[at + 1] as usize;
             let negatives = positives + image[at + 2] as usize;
-            Rule {
-                heads: slots[..heads].to_vec(),
-                positives: slots[heads..positives].to_vec(),
-                negatives: slots[positives..negatives].to_vec(),
-            }
+            Rule::new(&slots[..heads], &slots[heads..positives], &slots[positives..negatives])
         };
         let rules = (0..get2(image, 4)).map(rule).collect();
         Program { atoms: get2(image, 0), all: get2(image, 2), rules }
@@ -303,7 +276,7 @@ pub fn worlds(reading: &[u8]) -> (Vec<bool>, Vec<bool>) {
 }
 
 /// The members of a set as a list of truths.
-pub fn members(set: Set, atoms: usize) -> Vec<bool> {
+fn members(set: Set, atoms: usize) -> Vec<bool> {
     (0..atoms).map(|atom| set >> atom & 1 == 1).collect()
 }
 

@@ -1,0 +1,247 @@
+//! Books, each under every theory call, and its translation under every program call.
+
+use super::{all_readings, demand, sets, truths, Suite};
+use crate::calls::Call;
+use crate::compare::{hex, Checked};
+use crate::generate;
+use crate::lists::{self, Book};
+use crate::node::Node;
+
+/// A book, its image and the image of its program, in which there are `all` atoms.
+struct Translated<'b> {
+    book: &'b Book,
+    image: &'b [u8],
+    program: Vec<u8>,
+    all: usize,
+}
+
+impl Suite<'_> {
+    /// Every call on a book and its translation, the listing only if it is asked for or refused.
+    pub(super) fn book(
+        &mut self,
+        book: &Book,
+        readings: &[Vec<u8>],
+        candidates: &[Vec<u8>],
+        listed: bool,
+    ) -> Checked<()> {
+        let image = &book.image();
+        let flat = book.flat();
+        self.yes(Call::CheckTheory, image, &[])?;
+        let (answer, program) = self.rooms(Call::Translate, image, &[], 16 + 10 * flat.rules.len())?;
+        let same = answer.result == flat.rules.len() && program == flat.image();
+        demand(same, Call::Translate, image, || format!("the program should be {}", hex(&flat.image())))?;
+        self.yes(Call::CheckProgram, &program, &[])?;
+
+        let translated = Translated { book, image, program, all: flat.all };
+        for (index, reading) in readings.iter().enumerate() {
+            self.reading(&translated, reading, index == 0)?;
+        }
+        self.bad_readings(&[Call::EvaluateTheory, Call::Extend, Call::TestTheory], image, book.atoms)?;
+        self.bad_readings(&[Call::EvaluateProgram, Call::TestProgram], &translated.program, flat.all)?;
+        for candidate in candidates {
+            self.candidate(&translated, candidate)?;
+        }
+        if book.atoms > 12 {
+            let room = self.random.below(20);
+            self.comparer.expect(Call::ListSets, image, &[], room, 11, Some(book.atoms))?;
+        } else if listed {
+            self.listing(book, image)?;
+        }
+        Ok(())
+    }
+
+    /// Evaluation and extension under one reading, and evaluation of the program under what extension gives.
+    fn reading(&mut self, on: &Translated, reading: &[u8], in_all_rooms: bool) -> Checked<()> {
+        let satisfied = self.accepted(Call::EvaluateTheory, on.image, reading)? == 1;
+        let (here, there) = lists::worlds(reading);
+        demand(satisfied == on.book.satisfied(&here, &there), Call::EvaluateTheory, on.image, || {
+            format!("by the two worlds the answer under {} is the other one", hex(reading))
+        })?;
+        let (answer, extended) = match in_all_rooms {
+            true => self.rooms(Call::Extend, on.image, reading, on.all)?,
+            false => self.output(Call::Extend, on.image, reading, on.all)?,
+        };
+        let expected = [reading, &on.book.labels(reading)].concat();
+        demand(answer.result == on.all && extended == expected, Call::Extend, on.image, || {
+            format!("the extension of {} should be {}", hex(reading), hex(&expected))
+        })?;
+        let flat_satisfied = self.accepted(Call::EvaluateProgram, &on.program, &extended)? == 1;
+        demand(flat_satisfied == satisfied, Call::EvaluateProgram, &on.program, || {
+            format!("the book and its program disagree on {}", hex(&extended))
+        })
+    }
+
+    /// The test of one candidate, and of its extension as a candidate for the program.
+    fn candidate(&mut self, on: &Translated, candidate: &[u8]) -> Checked<()> {
+        let true_atoms = truths(candidate);
+        if true_atoms > 16 {
+            self.comparer.expect(Call::TestTheory, on.image, candidate, 0, 11, Some(true_atoms))?;
+            return Ok(());
+        }
+        let found = self.accepted(Call::TestTheory, on.image, candidate)?;
+        let (_, extended) = self.output(Call::Extend, on.image, candidate, on.all)?;
+        match truths(&extended) {
+            flat_truths @ 17.. => {
+                self.comparer.expect(Call::TestProgram, &on.program, &extended, 0, 11, Some(flat_truths))?;
+            }
+            // Many subsets take long, so only some of these.
+            11..=16 if !self.random.chance(3) => {}
+            _ => {
+                let flat_found = self.accepted(Call::TestProgram, &on.program, &extended)?;
+                demand(flat_found == found, Call::TestProgram, &on.program, || {
+                    format!("the book and its program disagree on the candidate {}", hex(&extended))
+                })?;
+            }
+        }
+        Ok(())
+    }
+
+    /// The listing of a book in all kinds of buffers; where the book is small, also against brute force.
+    pub(super) fn listing(&mut self, book: &Book, image: &[u8]) -> Checked<()> {
+        let answer = self.comparer.call(Call::ListSets, image, &[], 8192)?;
+        let count = answer.result;
+        let first = self.comparer.written().to_vec();
+        let (_, bytes) = match book.atoms > 8 {
+            false => self.rooms(Call::ListSets, image, &[], 2 * count)?,
+            true => self.output(Call::ListSets, image, &[], 2 * count)?,
+        };
+        demand(bytes == first, Call::ListSets, image, || "a larger buffer changes what is written".into())?;
+        if book.atoms <= 4 {
+            let expected = book.answer_sets();
+            demand(sets(&bytes) == expected, Call::ListSets, image, || format!("the sets should be {expected:?}"))?;
+        }
+        Ok(())
+    }
+
+    /// Every book of up to three nodes over up to two atoms: with no root, every root, every two roots in both orders
+    /// and repeated, and with all nodes as roots.
+    pub fn every_small_book(&mut self, stride: usize) -> Checked<()> {
+        let mut turn = 0;
+        for atoms in 0..=2 {
+            let readings = all_readings(atoms);
+            let candidates: Vec<Vec<u8>> = (0..1 << atoms).map(|set| lists::reading(set, set, atoms)).collect();
+            for nodes in small_node_lists(atoms) {
+                for roots in small_root_lists(nodes.len()) {
+                    turn += 1;
+                    if turn % stride == 0 {
+                        let book = Book { atoms, nodes: nodes.clone(), roots };
+                        self.book(&book, &readings, &candidates, true)?;
+                    }
+                }
+            }
+        }
+        Ok(())
+    }
+
+    /// Random books of all sizes up to the limits.
+    pub fn random_books(&mut self, small: usize, large: usize) -> Checked<()> {
+        for turn in 0..small {
+            let atoms = if turn % 500 == 0 { self.random.within(7, 9) } else { self.random.below(7) };
+            let (nodes, roots) = (self.random.below(25), self.random.below(5));
+            let book = generate::book(&mut self.random, atoms, nodes, roots);
+            self.with_random_arguments(&book, 6, atoms, true)?;
+        }
+        for turn in 0..large {
+            self.large_book(turn % 8 == 0)?;
+        }
+        for turn in 0..large / 10 {
+            self.book_of_facts(turn < 2)?;
+        }
+        // Listings of the most atoms that are listed.
+        for _ in 0..(large / 300).max(1) {
+            let book = generate::book(&mut self.random, 12, 30, 3);
+            self.listing(&book, &book.image())?;
+        }
+        Ok(())
+    }
+
+    /// A book of any size, or one with the longest program for its size.
+    fn large_book(&mut self, longest: bool) -> Checked<()> {
+        let atoms = self.size(1024);
+        let (nodes, roots) = (self.size(1024), self.size(256));
+        let random = &mut self.random;
+        let mut book = match longest && nodes > 0 && atoms > 0 {
+            true => generate::longest(random, atoms, nodes, roots),
+            false => generate::book(random, atoms, nodes, roots),
+        };
+        let reading = generate::reading(random, atoms);
+        if random.chance(50) {
+            generate::satisfy(random, &mut book, &reading);
+        }
+        let readings = [reading, generate::reading(random, atoms)];
+        let candidates = [(); 2].map(|_| generate::candidate(random, atoms, 8));
+        self.book(&book, &readings, &candidates, atoms <= 6)
+    }
+
+    /// A book with a known answer set, of few atoms or of the most, so that a candidate test looks at every subset.
+    fn book_of_facts(&mut self, most: bool) -> Checked<()> {
+        let atoms = self.random.within(40, 1024);
+        let nodes = self.random.within(20, 300);
+        let truths = if most { 16 } else { self.random.below(10) };
+        let (book, set) = generate::facts(&mut self.random, atoms, nodes, truths);
+        self.yes(Call::TestTheory, &book.image(), &set)?;
+        let mut near = set;
+        near[self.random.below(atoms)] ^= 2;
+        let few = self.random.within(17, 40);
+        let many = (0..atoms).map(|atom| if atom < few { 2 } else { 0 }).collect();
+        self.book(&book, &[], &[near, many], false)
+    }
+
+    /// A book under `count` readings and candidates, these with at most `truths` true atoms.
+    pub(super) fn with_random_arguments(
+        &mut self,
+        book: &Book,
+        count: usize,
+        truths: usize,
+        listed: bool,
+    ) -> Checked<()> {
+        let readings: Vec<_> = (0..count).map(|_| generate::reading(&mut self.random, book.atoms)).collect();
+        let candidates: Vec<_> =
+            (0..count).map(|_| generate::candidate(&mut self.random, book.atoms, truths)).collect();
+        self.book(book, &readings, &candidates, listed)
+    }
+}
+
+/// Every list of up to three nodes.
+fn small_node_lists(atoms: usize) -> Vec<Vec<Node>> {
+    let mut lists = vec![vec![]];
+    let mut longest = lists.clone();
+    for own in 0..3 {
+        let mut nodes = vec![Node::False, Node::True];
+        nodes.extend((0..atoms).map(Node::Atom));
+        nodes.extend((0..own).map(Node::Not));
+        for (x, y) in (0..own).flat_map(|x| (0..own).map(move |y| (x, y))) {
+            nodes.extend([Node::And(x, y), Node::Or(x, y), Node::Implies(x, y)]);
+        }
+        let longer = |list: &Vec<Node>| -> Vec<Vec<Node>> {
+            nodes.iter().map(|&node| list.iter().copied().chain([node]).collect()).collect()
+        };
+        longest = longest.iter().flat_map(longer).collect();
+        lists.extend(longest.iter().cloned());
+    }
+    lists
+}
+
+/// The choices of roots that are tried for so many nodes.
+fn small_root_lists(nodes: usize) -> Vec<Vec<usize>> {
+    let mut lists = vec![vec![]];
+    lists.extend((0..nodes).map(|root| vec![root]));
+    lists.extend((0..nodes).flat_map(|first| (0..nodes).map(move |second| vec![first, second])));
+    if nodes > 2 {
+        lists.push((0..nodes).collect());
+    }
+    lists
+}
+
+#[cfg(test)]
+mod tests {
+    use super::*;
+
+    #[test]
+    fn small_books_are_all_there() {
+        // Four leaves over two atoms; then one more with a negation and three kinds of two operands, and so on.
+        assert_eq!(small_node_lists(2).len(), 1 + 4 + 4 * 8 + 4 * 8 * 18);
+        assert_eq!(small_root_lists(3).len(), 1 + 3 + 9 + 1);
+        assert_eq!(small_root_lists(0).len(), 1);
+    }
+}

@@ -1,0 +1,300 @@
+//! Both sides of every limit, and images and arguments that are refused.
+
+use super::Suite;
+use crate::calls::Call;
+use crate::compare::Checked;
+use crate::lists::{get2, Book, Program, Rule};
+use crate::node::Node;
+use crate::random::Random;
+use crate::{damage, generate};
+
+impl Suite<'_> {
+    /// Both sides of every limit, and the corners of the tables.
+    pub fn limits(&mut self) -> Checked<()> {
+        self.theory_limits()?;
+        self.candidate_limits()?;
+        self.listing_limits()?;
+        let book = generate::longest(&mut self.random, 1024, 1024, 256);
+        self.with_random_arguments(&book, 3, 4, true)?;
+        self.program_limits()?;
+        // Counts whose sum is over 3 and would not be in a byte.
+        for counts in [[255, 1, 0], [128, 128, 0], [0, 254, 2], [85, 86, 85], [1, 255, 3]] {
+            let mut image = Program { atoms: 1, all: 1, rules: vec![Rule::default(); 2] }.image();
+            image[26..29].copy_from_slice(&counts);
+            self.comparer.expect(Call::CheckProgram, &image, &[], 0, 26, Some(1))?;
+        }
+        for truths in [15, 16, 17] {
+            let (program, set) = generate::fact_program(&mut self.random, 3072, 300, truths);
+            let (number, place) = if truths > 16 { (11, truths) } else { (0, 0) };
+            self.comparer.expect(Call::TestProgram, &program.image(), &set, 0, number, Some(place))?;
+        }
+        Ok(())
+    }
+
+    fn theory_limits(&mut self) -> Checked<()> {
+        let leaves = |count: usize| vec![Node::Atom(0); count];
+        let theories = [
+            (1024, leaves(1), vec![0], 0, 0),
+            (1025, leaves(1), vec![0], 2, 0),
+            (1, leaves(1024), vec![1023], 0, 0),
+            (1, leaves(1025), vec![1024], 2, 0),
+            (1, leaves(1), vec![0; 256], 0, 0),
+            (1, leaves(1), vec![0; 257], 2, 0),
+            (1024, leaves(1024), vec![1023; 256], 0, 0),
+            (0, vec![], vec![0], 7, 0),
+            (0, leaves(1), vec![], 6, 0),
+            (1, vec![Node::Atom(0), Node::Not(1)], vec![], 6, 1),
+            (1, vec![Node::Not(0)], vec![], 6, 0),
+            (1, leaves(2), vec![1, 1, 2, 0], 7, 2),
+        ];
+        for (atoms, nodes, roots, number, place) in theories {
+            let book = Book { atoms, nodes, roots };
+            self.comparer.expect(Call::CheckTheory, &book.image(), &[], 0, number, Some(place))?;
+            if number == 0 {
+                self.with_random_arguments(&book, 3, 4, true)?;
+            }
+        }
+        Ok(())
+    }
+
+    fn candidate_limits(&mut self) -> Checked<()> {
+        for truths in [0, 1, 15, 16, 17, 18, 1024] {
+            let book = Book { atoms: 1024, nodes: vec![Node::Atom(0)], roots: vec![0] };
+            let candidate: Vec<u8> = (0..1024).map(|atom| if atom < truths { 2 } else { 0 }).collect();
+            self.book(&book, &[], &[candidate], true)?;
+        }
+        Ok(())
+    }
+
+    fn listing_limits(&mut self) -> Checked<()> {
+        for atoms in [11, 12, 13] {
+            self.with_random_arguments(&Book { atoms, ..Book::default() }, 1, 2, true)?;
+        }
+        let book = generate::free(Book { atoms: 12, ..Book::default() });
+        self.listing(&book, &book.image())
+    }
+
+    fn program_limits(&mut self) -> Checked<()> {
+        let fact = |atom: usize| Rule::new(&[atom], &[], &[]);
+        let empty = Rule::default();
+        let programs = [
+            (1024, 1024, vec![fact(1023)], 0, 0),
+            (1025, 1025, vec![fact(1023)], 22, 0),
+            (1024, 3072, vec![fact(3071)], 0, 0),
+            (1024, 3073, vec![fact(3071)], 22, 0),
+            (1024, 1023, vec![], 22, 0),
+            (0, 1, vec![fact(0); 6400], 0, 0),
+            (0, 1, vec![fact(0); 6401], 22, 0),
+            (1024, 3072, vec![fact(3071); 6400], 0, 0),
+            (0, 0, vec![], 0, 0),
+            (0, 0, vec![empty.clone(); 3], 0, 0),
+            (0, 0, vec![empty, fact(0)], 26, 1),
+            (1, 2, vec![fact(1), fact(0), fact(2), fact(3)], 26, 2),
+        ];
+        for (atoms, all, rules, number, place) in programs {
+            let program = Program { atoms, all, rules };
+            self.comparer.expect(Call::CheckProgram, &program.image(), &[], 0, number, Some(place))?;
+            if number == 0 {
+                self.program(&program, 3)?;
+            }
+        }
+        Ok(())
+    }
+
+    /// For each call, every row that it has and every two of its rows broken at once: the earlier row must win.
+    pub fn damaged(&mut self, times: usize) -> Checked<()> {
+        for call in Call::ALL {
+            let rows = rows(call);
+            for (index, &row) in rows.iter().enumerate() {
+                for &later in &rows[index..] {
+                    for _ in 0..times {
+                        self.damaged_once(call, row, later)?;
+                    }
+                }
+            }
+        }
+        Ok(())
+    }
+
+    fn damaged_once(&mut self, call: Call, row: u32, later: u32) -> Checked<()> {
+        let random = &mut self.random;
+        let twice = row == later && random.chance(30);
+        let mut broken = Broken { row, later, twice, large: random.chance(3), place: None };
+        let (image, atoms, needed) = match call.on_program() {
+            true => broken.program(random),
+            false => broken.theory(random, call),
+        };
+        let reading = broken.reading(random, call, atoms);
+        let mut room = needed + random.below(20);
+        if broken.has(8) {
+            room = random.pick(&[0, needed - 1]);
+            broken.note(8, needed);
+        }
+        self.comparer.expect(call, &image, &reading, room, row, broken.place)?;
+        Ok(())
+    }
+
+    /// Valid images with a few bytes changed at random, so that nobody knows beforehand what is wrong with them.
+    pub fn mutated(&mut self, times: usize) -> Checked<()> {
+        for _ in 0..times {
+            let random = &mut self.random;
+            let on_program = random.chance(40);
+            let mut image = if on_program {
+                let (all, rules) = (random.below(9), random.below(7));
+                generate::program(random, all / 2, all, rules).image()
+            } else {
+                let (atoms, nodes, roots) = (random.below(6), random.below(9), random.below(4));
+                generate::book(random, atoms, nodes, roots).image()
+            };
+            for _ in 0..random.within(1, 3) {
+                mutate(random, &mut image);
+            }
+            let at = if on_program { 2 } else { 0 };
+            let atoms = image.get(at..at + 2).map_or(0, |bytes| get2(bytes, 0));
+            for call in Call::ALL.into_iter().filter(|call| call.on_program() == on_program) {
+                let random = &mut self.random;
+                let reading = match call.tests() || random.chance(20) {
+                    true => generate::candidate(random, atoms.min(3100), 5),
+                    false => generate::reading(random, atoms.min(3100)),
+                };
+                let room = random.below(300);
+                self.comparer.call(call, &image, &reading, room)?;
+            }
+        }
+        Ok(())
+    }
+}
+
+/// Arguments in which two rows are to be broken, which may be the same one.
+struct Broken {
+    row: u32,
+    later: u32,
+    /// Whether one row is broken in two places, of which the first counts.
+    twice: bool,
+    large: bool,
+    /// The place that the earlier row has by now.
+    place: Option<usize>,
+}
+
+impl Broken {
+    fn has(&self, row: u32) -> bool {
+        row == self.row || row == self.later
+    }
+
+    fn note(&mut self, row: u32, at: usize) {
+        if row == self.row {
+            self.place = Some(self.place.map_or(at, |before| before.min(at)));
+        }
+    }
+
+    /// Breaks a row as often as it is to be.
+    fn damage(&mut self, row: u32, mut damage: impl FnMut() -> usize) {
+        let several_places = matches!(row, 6 | 7 | 10 | 26);
+        for _ in 0..1 + usize::from(self.twice && several_places) {
+            self.note(row, damage());
+        }
+    }
+
+    /// A program image, with its number of atoms and the room that is needed, which is none.
+    fn program(&mut self, random: &mut Random) -> (Vec<u8>, usize, usize) {
+        let low = if self.has(11) { 20 } else { 1 };
+        let all = random.within(low, if self.large { 3072 } else { low + 20 });
+        let given = random.below(all.min(1024) + 1);
+        let rules = random.within(1, if self.large { 6400 } else { 8 });
+        let mut image = generate::program(random, given, all, rules).image();
+        for row in damage::PROGRAM_ORDER {
+            if self.has(row) {
+                self.damage(row, || damage::program(random, &mut image, row));
+            }
+        }
+        (image, all, 0)
+    }
+
+    /// A theory image, with its number of atoms and the room that the call needs.
+    fn theory(&mut self, random: &mut Random, call: Call) -> (Vec<u8>, usize, usize) {
+        let atoms = match call {
+            Call::ListSets if self.has(11) => random.within(13, 40),
+            Call::ListSets => random.within(1, 4),
+            _ if self.has(11) => random.within(20, 60),
+            _ => random.within(1, if self.large { 1024 } else { 20 }),
+        };
+        let (nodes, roots) = match self.large {
+            true => (random.within(1, 1024), random.within(1, 256)),
+            false => (random.within(1, 12), random.within(1, 5)),
+        };
+        let mut book = generate::book(random, atoms, nodes, roots);
+        if call == Call::ListSets {
+            book.nodes[0] = Node::True;
+            book.roots.fill(0);
+        }
+        let needed = match call {
+            Call::Translate => 16 + 10 * book.flat().rules.len(),
+            Call::Extend => book.flat().all,
+            _ => 2,
+        };
+        let mut image = book.image();
+        for row in damage::THEORY_ORDER {
+            if self.has(row) {
+                self.damage(row, || damage::theory(random, &mut image, row));
+            }
+        }
+        if call == Call::ListSets {
+            self.note(11, atoms);
+        }
+        (image, atoms, needed)
+    }
+
+    /// An interpretation, or where the call tests one, a candidate.
+    fn reading(&mut self, random: &mut Random, call: Call, atoms: usize) -> Vec<u8> {
+        let mut reading = match call.tests() {
+            true => generate::candidate(random, atoms, 6),
+            false => generate::reading(random, atoms),
+        };
+        if call.tests() && self.has(11) {
+            let truths = random.within(17, atoms);
+            reading = (0..atoms).map(|atom| if atom < truths { 2 } else { 0 }).collect();
+            self.note(11, truths);
+        }
+        if self.has(10) {
+            self.damage(10, || damage::reading_byte(random, &mut reading, call.tests()));
+        }
+        if self.has(9) {
+            self.note(9, damage::reading_length(random, &mut reading));
+        }
+        reading
+    }
+}
+
+/// The rows of each call, in the order in which they are tested. Row 14 cannot be reached.
+fn rows(call: Call) -> &'static [u32] {
+    match call {
+        Call::CheckTheory => &[1, 2, 3, 4, 5, 6, 7],
+        Call::EvaluateTheory => &[1, 2, 3, 4, 5, 6, 7, 9, 10],
+        Call::Translate => &[1, 2, 3, 4, 5, 6, 7, 8],
+        Call::Extend => &[1, 2, 3, 4, 5, 6, 7, 9, 10, 8],
+        Call::TestTheory => &[1, 2, 3, 4, 5, 6, 7, 9, 10, 11],
+        Call::ListSets => &[1, 2, 3, 4, 5, 6, 7, 11, 8],
+        Call::CheckProgram => &[21, 22, 23, 24, 25, 26],
+        Call::EvaluateProgram => &[21, 22, 23, 24, 25, 26, 9, 10],
+        Call::TestProgram => &[21, 22, 23, 24, 25, 26, 9, 10, 11],
+    }
+}
+
+/// One small change to an image.
+fn mutate(random: &mut Random, image: &mut Vec<u8>) {
+    let length = image.len();
+    match random.below(12) {
+        0 => image.truncate(random.below(length + 1)),
+        1 => image.push(random.below(256) as u8),
+        _ if length == 0 => {}
+        kind => {
+            let at = random.below(if kind < 5 { length.min(16) } else { length });
+            image[at] = match random.below(4) {
+                0 => image[at].wrapping_add(1),
+                1 => image[at].wrapping_sub(1),
+                2 => image[at] ^ 1 << random.below(8),
+                _ => random.below(8) as u8,
+            };
+        }
+    }
+}
