@@ -87,7 +87,7 @@ write-node-requires c κs =
     let terms = c .before .before .before .before in
     let turn = terms .before .before in
     let tables = turn .before .before in
-    (record { rows = tables .before .shapes .ensures; counts = tables .kinds .ensures; known = known (terms .before) .row }, rw (rules-are terms) (turn-room (turn .before .loop .inv .0) (fits turn)))
+    (record { rows = tables .before .shapes .ensures; counts = tables .kinds .ensures; known = omega (arith, known (terms .before)) }, rw (← rules-are terms) at (turn-room (turn .before .loop .inv .0) (fits turn)))
 
 add-at : tie.Need-add-at Inv-loop μ-loop
 add-at c =
