@@ -1,16 +1,21 @@
 -- What a writer of rules needs of a list of rules that grows by a part at each turn: the bytes grow by the part's, and there is room for them. Assumes nothing.
 use mathlib.Core.Path.{_≡_, refl, sym, ap, _∙_}
-use mathlib.Core.List.{List, _++_, append-assoc}
+use mathlib.Core.List.{List, [], _++_, append-assoc}
 use Prim.Native.Nat.{ℕ, _+_, _≤_, _<_}
 use native.Mathlib.Omega.{arith}
 use lib.ListN.{length, take, length-append, take-append-drop}
 use lib.Seq.{length-take-le, drop-at}
 use Rattle.wire.specs.Wire.{over}
-use Rattle.wire.proofs.Laws.{Written, length-over}
+use Rattle.wire.proofs.Laws.{Written, written-none, length-over}
 use Rattle.program.specs.Rule.{Rule}
 use Rattle.program.specs.Image.{rulesBytes}
 use Rattle.program.proofs.Lengths.{rulesBytes-append}
 use Rattle.translation.proofs.Turns.{grown}
+
+-- Where a writer stands that has no rule to write yet.
+pub written-no-rules : (rs : List Rule) (old : List ℕ) → rs ≡ [] → Written (rulesBytes rs) old old 0
+unfolding rulesBytes
+written-no-rules rs old e = rw e (written-none old)
 
 -- Where a writer stands that wrote over the start.
 pub written-first : (new old out : List ℕ) (at : ℕ) → length new ≤ length old → at ≡ length new → out ≡ over new old → Written new old out at

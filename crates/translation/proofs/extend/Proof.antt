@@ -1,7 +1,9 @@
 -- `extend` tests B, the reading and the room before it writes a byte: at each return the answer and the output are those of the rows. Assumes nothing.
-use mathlib.Core.Path.{_≡_, sym, ap, _∙_}
-use denote.Ref.{now}
+use mathlib.Core.Path.{_≡_, sym, ap, _∙_, subst}
 use mathlib.Core.Bool.{true, false}
+use Prim.Native.Nat.{_≤_, _<_}
+use lib.ListN.{length}
+use denote.Ref.{now}
 use Rattle.refusal.specs.Table.{refused, accepted, answer, none}
 use Rattle.refusal.specs.Rows.{readingRows}
 use Rattle.refusal.proofs.Table.{none-accepted}
@@ -75,11 +77,14 @@ returns-3 : tie.Need-returns-3
 returns-3 c =
     let start = c .before .before .before .before .before .before .before .before .before .before .before .before .before in
     let e = size-is (c .before .before .before .before .before .before) in
-    let r = extend-short (now (start .args .theory)) (now (start .args .reading)) (now (start .args .out)) (rw e at (c .before .before .before .before .before .if1 .left)) (fine (c .before .before)) (rw e at (c .before .if3 .taken)) in
+    let short = subst (λ n. length (now (start .args .out)) < n) e (c .before .if3 .taken) in
+    let r = extend-short (now (start .args .theory)) (now (start .args .reading)) (now (start .args .out)) (rw e at (c .before .before .before .before .before .if1 .left)) (fine (c .before .before)) short in
     (c .refuse2 .ensures ∙ ap (refused 8) e ∙ sym (r .0), sym (r .1))
 
 write-extension-requires : tie.Need-write-extension-requires
-write-extension-requires c κs = (c .before .before .before .before .before .before .before .before .before .before .before .before .before .pre, fine (c .before .before), rw (size-is (c .before .before .before .before .before .before)) at (c .before .if3 .left))
+write-extension-requires c κs =
+    let start = c .before .before .before .before .before .before .before .before .before .before .before .before .before in
+    (start .pre, fine (c .before .before), subst (λ n. n ≤ length (now (start .args .out))) (size-is (c .before .before .before .before .before .before)) (c .before .if3 .left))
 
 accept-requires : tie.Need-accept-requires
 accept-requires c κs = search needs
@@ -91,7 +96,8 @@ returns-4 : tie.Need-returns-4
 returns-4 c =
     let start = c .before .before .before .before .before .before .before .before .before .before .before .before .before .before .before .before .before in
     let e = size-is (c .before .before .before .before .before .before .before .before .before .before) in
-    let r = extend-all (now (start .args .theory)) (now (start .args .reading)) (now (start .args .out)) (rw e at (c .before .before .before .before .before .before .before .before .before .if1 .left)) (fine (c .before .before .before .before .before .before)) (rw e at (c .before .before .before .before .before .if3 .left)) in
+    let room = subst (λ n. n ≤ length (now (start .args .out))) e (c .before .before .before .before .before .if3 .left) in
+    let r = extend-all (now (start .args .theory)) (now (start .args .reading)) (now (start .args .out)) (rw e at (c .before .before .before .before .before .before .before .before .before .if1 .left)) (fine (c .before .before .before .before .before .before)) room in
     (c .accept .ensures ∙ ap accepted e ∙ sym (r .0), c .before .before .before .write-extension .ensures ∙ sym (r .1))
 
 pub extend-spec : {M : Type 1} → statement M

@@ -1,5 +1,7 @@
 -- `translate` tests B and the room before it writes a byte: at each return the answer and the output are those of the rows. Assumes nothing.
-use mathlib.Core.Path.{_≡_, sym, ap, _∙_}
+use mathlib.Core.Path.{_≡_, sym, ap, _∙_, subst}
+use Prim.Native.Nat.{_≤_, _<_}
+use lib.ListN.{length}
 use denote.Ref.{now}
 use Rattle.wire.proofs.Laws.{part-from}
 use Rattle.refusal.specs.Table.{refused, accepted}
@@ -84,7 +86,8 @@ returns-2 c =
     let start = c .before .before .before .before .before .before .before .before .before .before .before .before .before .before .before in
     let k : c .before .before .count .result ≡ ruleTotal (now (start .args .theory)) = c .before .before .count .ensures .0 in
     let small = rw (size-is (c .before .before .before .before .before .before .before .before .before)) at (c .before .before .before .before .before .before .before .before .if1 .left) in
-    let r = translate-short (now (start .args .theory)) (now (start .args .out)) small (rw k at (c .before .if2 .taken)) in
+    let short = subst (λ n. length (now (start .args .out)) < imageLength n) k (c .before .if2 .taken) in
+    let r = translate-short (now (start .args .theory)) (now (start .args .out)) small short in
     (c .refuse2 .ensures ∙ ap (λ n. refused 8 (imageLength n)) k ∙ sym (r .0), sym (r .1))
 
 write-requires : tie.Need-write-requires
@@ -103,7 +106,8 @@ returns-3 c =
     let start = c .before .before .before .before .before .before .before .before .before .before .before .before .before .before .before .before .before .before .before .before in
     let k : c .before .before .before .before .before .before .before .count .result ≡ ruleTotal (now (start .args .theory)) = c .before .before .before .before .before .before .before .count .ensures .0 in
     let small = rw (size-is (c .before .before .before .before .before .before .before .before .before .before .before .before .before .before)) at (c .before .before .before .before .before .before .before .before .before .before .before .before .before .if1 .left) in
-    let r = translate-all (now (start .args .theory)) (now (start .args .out)) small (rw k at (c .before .before .before .before .before .before .if2 .left)) in
+    let room = subst (λ n. imageLength n ≤ length (now (start .args .out))) k (c .before .before .before .before .before .before .if2 .left) in
+    let r = translate-all (now (start .args .theory)) (now (start .args .out)) small room in
     (c .accept .ensures ∙ ap accepted k ∙ sym (r .0), c .before .before .before .write .ensures ∙ sym (r .1))
 
 pub translate-spec : {M : Type 1} → statement M

@@ -1,5 +1,5 @@
 -- `write` writes the image: the rules behind the first 16 bytes, and then the header over these. Assumes nothing.
-use mathlib.Core.Path.{_≡_, _∙_}
+use mathlib.Core.Path.{_≡_, ap, ap₂, _∙_}
 use Prim.Native.Nat.{_+_, _≤_}
 use native.Mathlib.Omega.{arith}
 use lib.ListN.{length, take}
@@ -61,7 +61,9 @@ returns c =
     let w = turn (written-past 16 old (omega arith)) rules (fit start) (put .0) (put .1) in
     let head = header (atomCount t) (sizeOf t) (ruleTotal t) in
     let e : length head ≡ 16 = length-header (atomCount t) (sizeOf t) (ruleTotal t) in
-    let h : c .before .before .before .before .before .header-bytes .result ≡ head = c .before .before .before .before .before .header-bytes .ensures ∙ rw (c .before .before .before .before .before .before .atoms .ensures .0, start .pre .1 .0, start .pre .1 .1) in
+    let h : c .before .before .before .before .before .header-bytes .result ≡ head = c .before .before .before .before .before .header-bytes .ensures
+    ∙ ap (λ a. header a (start .args .size) (start .args .rules)) (c .before .before .before .before .before .before .atoms .ensures .0)
+    ∙ ap₂ (header (atomCount t)) (start .pre .1 .0) (start .pre .1 .1) in
     c .before .before .put .ensures .1 ∙ rw h (over-last head rules old _ (omega arith) (rw e (w .bytes)))
 
 pub write-spec : {M : Type 1} → statement M

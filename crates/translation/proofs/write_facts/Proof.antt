@@ -5,7 +5,7 @@ use native.Mathlib.Omega.{arith}
 use lib.ListN.{length, getD}
 use denote.Ref.{now}
 use borrow.Author.Needs.{needs}
-use Rattle.wire.proofs.Laws.{Written, written-none, turn-room, turn}
+use Rattle.wire.proofs.Laws.{Written, turn-room, turn}
 use Rattle.theory.specs.Image.{rootIn}
 use Rattle.program.specs.Image.{rulesBytes}
 use Rattle.flat.specs.Flat.{fact, simplify}
@@ -13,7 +13,7 @@ use Rattle.table.specs.OneRule.{decode, madeBytes}
 use Rattle.table.proofs.OneRule.{madeOf-few, madeBytes-madeOf}
 use Rattle.translation.specs.Turns.{factsTo, scratchTerm}
 use Rattle.translation.proofs.Turns.{factsTo-none, factsTo-more}
-use Rattle.translation.proofs.Writing.{bytes-more, bytes-fit}
+use Rattle.translation.proofs.Writing.{written-no-rules, bytes-more, bytes-fit}
 use Rattle.translation.proofs.write_facts.Statement.{statement}
 use Rattle.translation.proofs.write_facts.Tie as tie
 
@@ -24,8 +24,7 @@ abbrev μ-loop : tie.MeasureT-loop
 μ-loop out₀ roots count terms at₀ done₀ out at done = count - done
 
 loop-holds : tie.Need-loop-holds Inv-loop μ-loop
-unfolding rulesBytes
-loop-holds c = (rw factsTo-none (written-none _), search needs)
+loop-holds c = (written-no-rules _ _ (factsTo-none _ _), search needs)
 
 -- the root's fact fits behind those written
 fits : (c : tie.In-loop Inv-loop μ-loop) → let start = c .before .before .before .before in let f = scratchTerm (now (start .args .terms)) in let s = now (start .args .roots) in let i = c .before .loop .done in

@@ -6,7 +6,7 @@ use native.Mathlib.Omega.{arith}
 use lib.ListN.{length, getD}
 use denote.Ref.{now}
 use borrow.Author.Needs.{needs}
-use Rattle.wire.proofs.Laws.{Written, written-none, turn-room, turn}
+use Rattle.wire.proofs.Laws.{Written, turn-room, turn}
 use Rattle.program.specs.Image.{rulesBytes}
 use Rattle.flat.specs.Flat.{simplify}
 use Rattle.table.specs.Shapes.{rowCount, kindShape, Fillable}
@@ -15,7 +15,7 @@ use Rattle.table.proofs.Rows.{row-within, row-read, row-fillable}
 use Rattle.table.proofs.OneRule.{madeOf-few, length-ruleIn, madeBytes-madeOf}
 use Rattle.translation.specs.Turns.{rowsTo}
 use Rattle.translation.proofs.Turns.{rowsTo-none, rowsTo-more, rowsTo-all}
-use Rattle.translation.proofs.Writing.{bytes-more, bytes-fit}
+use Rattle.translation.proofs.Writing.{written-no-rules, bytes-more, bytes-fit}
 use Rattle.translation.proofs.write_node.Statement.{statement}
 use Rattle.translation.proofs.write_node.Tie as tie
 
@@ -44,8 +44,7 @@ index-2-count : tie.Need-index-2-count Inv-loop μ-loop
 index-2-count c = search needs
 
 loop-holds : tie.Need-loop-holds Inv-loop μ-loop
-unfolding rulesBytes
-loop-holds c = (rw rowsTo-none (written-none _), search needs)
+loop-holds c = (written-no-rules _ _ (rowsTo-none _ _), search needs)
 
 -- the row stands in the table, and has few literals
 within : (c : tie.In-loop Inv-loop μ-loop) → let start = c .before .before .before .before .before in

@@ -6,7 +6,7 @@ use native.Mathlib.Omega.{arith}
 use lib.ListN.{length}
 use denote.Ref.{now}
 use borrow.Author.Needs.{needs}
-use Rattle.wire.proofs.Laws.{Written, written-none, turn-room, turn}
+use Rattle.wire.proofs.Laws.{Written, turn-room, turn}
 use Rattle.theory.specs.Image.{nodeIn}
 use Rattle.program.specs.Rule.{Rule}
 use Rattle.program.specs.Image.{rulesBytes}
@@ -14,7 +14,7 @@ use Rattle.flat.specs.Flat.{nodeRules}
 use Rattle.translation.specs.Turns.{nextTo, termsTo, rulesTo, kindRules}
 use Rattle.translation.proofs.Turns.{nextTo-none, nextTo-more, rulesTo-none, rulesTo-more}
 use Rattle.translation.proofs.NodeTerms.{Known, node-known, operands-small, turn-rules}
-use Rattle.translation.proofs.Writing.{bytes-more, bytes-fit}
+use Rattle.translation.proofs.Writing.{written-no-rules, bytes-more, bytes-fit}
 use Rattle.translation.proofs.write_nodes.Statement.{statement}
 use Rattle.translation.proofs.write_nodes.Tie as tie
 
@@ -31,8 +31,7 @@ kinds-requires : tie.Need-kinds-requires Inv-loop μ-loop
 kinds-requires c κs = search needs
 
 loop-holds : tie.Need-loop-holds Inv-loop μ-loop
-unfolding rulesBytes
-loop-holds c = (rw rulesTo-none (written-none _), sym (nextTo-none _ _), search needs)
+loop-holds c = (written-no-rules _ _ (rulesTo-none _ _), sym (nextTo-none _ _), search needs)
 
 -- the node's rules fit behind those written
 fits : (c : tie.In-loop Inv-loop μ-loop) → let start = c .before .before .before .before .before .before in let A = start .args .atoms in let s = now (start .args .nodes) in let k = c .before .loop .k in
@@ -88,7 +87,7 @@ write-node-requires c κs =
     let terms = c .before .before .before .before in
     let turn = terms .before .before in
     let tables = turn .before .before in
-    (record { rows = tables .before .shapes .ensures; counts = tables .kinds .ensures; known = known (terms .before) .row }, rw (rules-are terms) (turn-room (turn .before .loop .inv .0) (fits turn)))
+    (record { rows = tables .before .shapes .ensures; counts = tables .kinds .ensures; known = omega (arith, known (terms .before)) }, rw (← rules-are terms) at (turn-room (turn .before .loop .inv .0) (fits turn)))
 
 add-at : tie.Need-add-at Inv-loop μ-loop
 add-at c =
