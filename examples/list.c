@@ -6,13 +6,16 @@
  *
  * For each book: its name; then `sets` and their number, and a line for each set (the number
  * of its atoms, then the atoms); then B, the number of rules and the bytes of its flat program.
- * A refusal is one line: `refused`, number, place. Exit status 1 if a file can't be read.
+ * A refusal is one line: `refused`, number, place. The exit status is 0 if every file was read
+ * and nothing was refused, 1 if not, and 2 if no book was named.
  */
 #include <stdio.h>
 #include "rulebook.h"
 
+/* The longest image, the bytes of 4,096 sets, and the longest program. */
 enum { LONGEST = 6672, ROOM = 8192, PROGRAM = 64016 };
 
+/* One byte more than the longest image: a file that fills it is too long, and refused by row 5 or an earlier one. */
 static uint8_t image[LONGEST + 1];
 static uint8_t sets[ROOM];
 static uint8_t program[PROGRAM];
@@ -34,6 +37,7 @@ static void print_set(unsigned set)
     putchar('\n');
 }
 
+/* Prints the line of a refusal, if the answer is one, and tells whether it is. */
 static int refused(struct rulebook_answer answer)
 {
     if (answer.number != 0)
@@ -41,38 +45,57 @@ static int refused(struct rulebook_answer answer)
     return answer.number != 0;
 }
 
-static void show(size_t length)
+/* Shows the book whose image has so many bytes, and tells whether a call refused it. */
+static int show(size_t length)
 {
+    if (refused(rulebook_check_theory(image, length)))
+        return 1;
     struct rulebook_answer listed = rulebook_list_sets(image, length, sets, sizeof sets);
-    if (!refused(listed)) {
+    int status = refused(listed);
+    if (status == 0) {
         printf("sets %zu\n", listed.result);
         for (size_t i = 0; i < listed.result; i++)
             print_set(number_at(sets, 2 * i));
     }
     struct rulebook_answer flat = rulebook_translate(image, length, program, sizeof program);
-    if (!refused(flat))
-        printf("program B %u, %zu rules, %zu bytes\n", number_at(program, 2), flat.result, 16 + 10 * flat.result);
+    if (refused(flat))
+        return 1;
+    printf("program B %u, %zu rules, %zu bytes\n", number_at(program, 2), flat.result, 16 + 10 * flat.result);
+    return status;
+}
+
+/* Reads a file and shows the book in it, and tells whether either failed. */
+static int show_file(const char *name)
+{
+    FILE *file = fopen(name, "rb");
+    if (file == NULL) {
+        perror(name);
+        return 1;
+    }
+    size_t length = fread(image, 1, sizeof image, file);
+    int failed = ferror(file);
+    if (failed)
+        perror(name);
+    fclose(file);
+    if (failed)
+        return 1;
+    printf("%s\n", name);
+    return show(length);
 }
 
 int main(int argc, char **argv)
 {
+    if (argc < 2) {
+        fprintf(stderr, "usage: list BOOK..\n");
+        return 2;
+    }
     int status = 0;
-    for (int i = 1; i < argc; i++) {
-        FILE *file = fopen(argv[i], "rb");
-        if (file == NULL) {
-            perror(argv[i]);
+    for (int i = 1; i < argc; i++)
+        if (show_file(argv[i]) != 0)
             status = 1;
-            continue;
-        }
-        size_t length = fread(image, 1, sizeof image, file);
-        if (ferror(file)) {
-            perror(argv[i]);
-            status = 1;
-        } else {
-            printf("%s\n", argv[i]);
-            show(length);
-        }
-        fclose(file);
+    if (fflush(stdout) != 0 || ferror(stdout)) {
+        perror("standard output");
+        status = 1;
     }
     return status;
 }

@@ -3,7 +3,8 @@
 // A line is the two letters of a call and then its arguments, with one space between any two words. An argument is
 // bytes in hex, each alone or with `*` and how often it stands. `/` begins the reading, and `>` the length of the output, which
 // holds the byte aa throughout before the call. `p` stands for the program image that the last accepted translation wrote, and `x`
-// for the reading that the last accepted extension wrote. An empty line and a line that begins with `#` are printed as they stand.
+// for the reading that the last accepted extension wrote. An empty line and a line that begins with `#` are printed as they stand;
+// a line that is malformed is named by its number. The first 262,144 bytes of a script are run.
 use call::Call;
 use libc::STDIN_FILENO;
 use refusal::Answer;

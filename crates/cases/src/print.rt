@@ -13,9 +13,9 @@ pub fn line(text: &[u8]) {
 
 // That a line is malformed, and its number.
 pub fn malformed(number: usize) {
-    io::write_all(STDOUT_FILENO, b"? ");
+    io::write_all(STDOUT_FILENO, b"line ");
     io::print_decimal(STDOUT_FILENO, number as u64);
-    io::write_all(STDOUT_FILENO, b"\n");
+    io::write_all(STDOUT_FILENO, b" is malformed\n");
 }
 
 // Number, place and result of an answer, and the bytes of a short output.

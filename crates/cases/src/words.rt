@@ -29,7 +29,7 @@ pub fn read(
     let arrow = find(text, b'>');
     let slash = find(&text[0..arrow], b'/');
     let out = if arrow < text.len() {
-        decimal(after(text, arrow + 2))
+        room(after(text, arrow + 1))
     } else {
         0
     };
@@ -56,6 +56,14 @@ fn shape(has_reading: bool, has_output: bool) -> u8 {
     } else {
         NOTHING
     }
+}
+
+// The length of the output: the number after a space.
+fn room(text: &[u8]) -> usize {
+    if text.len() == 0 || text[0] != b' ' {
+        return TOO_MANY;
+    }
+    decimal(after(text, 1))
 }
 
 // The index of the first such byte, or the length where there is none.

@@ -21,18 +21,18 @@ before there there = true
 abbrev pub everyFrom : World → (World → Bool) → Bool
 everyFrom w p = (not (before w here) || p here) && (not (before w there) || p there)
 
--- The truth value in the pair of H, the atoms verified here, and T, those verified there.
+-- In the pair of H and T:
 module _ (H T : Atoms) where
+  -- The atoms verified at a world, H here and T there.
   abbrev pub verified : World → Atoms
   verified here = H
   verified there = T
 
-module _ (H T : Atoms) where
-  -- The seven clauses.
+  -- The truth value of a formula at a world, by the seven clauses.
   abbrev pub truth : World → Formula → Bool
   truth w verum = true
   truth w falsum = false
-  truth w (atom a) = member (verified H T w) a
+  truth w (atom a) = member (verified w) a
   truth w (neg f) = everyFrom w (λ u. not (truth u f))
   truth w (conj f g) = truth w f && truth w g
   truth w (disj f g) = truth w f || truth w g
