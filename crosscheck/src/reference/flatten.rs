@@ -14,49 +14,51 @@ enum Term {
 const FALSE: u16 = u16::MAX;
 const TRUE: u16 = u16::MAX - 1;
 
-/// The terms of a theory's nodes, and how much there is to write.
-pub struct Plan {
-    terms: [u16; MOST_NODES],
+/// The terms of the nodes, as numbers. One array serves both passes.
+pub type Terms = [u16; MOST_NODES];
+
+pub const NO_TERMS: Terms = [0; MOST_NODES];
+
+/// How much there is to write.
+pub struct Size {
     /// The number of all atoms, labels included.
     pub all: usize,
     pub rules: usize,
 }
 
-impl Plan {
-    fn term(&self, node: usize) -> Term {
-        match self.terms[node] {
-            FALSE => Term::False,
-            TRUE => Term::True,
-            atom => Term::Atom(atom),
-        }
-    }
-}
-
-/// Numbers the labels and counts the rules.
-pub fn plan(theory: &Theory) -> Plan {
-    let mut plan = Plan { terms: [0; MOST_NODES], all: theory.atoms, rules: 0 };
+/// Fills in the terms, numbering the labels, and counts the rules.
+pub fn measure(theory: &Theory, terms: &mut Terms) -> Size {
+    let mut all = theory.atoms;
     let mut counter = Counter { rules: 0 };
     for (own, node) in theory.nodes().enumerate() {
-        plan.terms[own] = match node {
+        terms[own] = match node {
             Node::False => FALSE,
             Node::True => TRUE,
             Node::Atom(atom) => atom as u16,
-            _ => plan.all as u16,
+            _ => all as u16,
         };
-        plan.all += labels(node);
-        node_rules(own, node, &plan, &mut counter);
+        all += labels(node);
+        node_rules(own, node, terms, &mut counter);
     }
-    root_rules(theory, &plan, &mut counter);
-    Plan { rules: counter.rules, ..plan }
+    root_rules(theory, terms, &mut counter);
+    Size { all, rules: counter.rules }
 }
 
 /// Writes the rules, ten bytes each, from the start of `out` on.
-pub fn write(theory: &Theory, plan: &Plan, out: &mut [u8]) {
+pub fn write(theory: &Theory, terms: &Terms, out: &mut [u8]) {
     let mut writer = Writer { free: out.chunks_exact_mut(10) };
     for (own, node) in theory.nodes().enumerate() {
-        node_rules(own, node, plan, &mut writer);
+        node_rules(own, node, terms, &mut writer);
     }
-    root_rules(theory, plan, &mut writer);
+    root_rules(theory, terms, &mut writer);
+}
+
+fn term(terms: &Terms, node: usize) -> Term {
+    match terms[node] {
+        FALSE => Term::False,
+        TRUE => Term::True,
+        atom => Term::Atom(atom),
+    }
 }
 
 /// Where rules go before their constants are taken out. Every rule is written with fixed numbers of terms, so that once
@@ -66,30 +68,30 @@ trait Sink {
 }
 
 #[inline(always)]
-fn node_rules(own: usize, node: Node, plan: &Plan, sink: &mut impl Sink) {
+fn node_rules(own: usize, node: Node, terms: &Terms, sink: &mut impl Sink) {
     // A leaf has no labels, and these are not used.
-    let (l, m) = (Term::Atom(plan.terms[own]), Term::Atom(plan.terms[own].wrapping_add(1)));
+    let (l, m) = (Term::Atom(terms[own]), Term::Atom(terms[own].wrapping_add(1)));
     match node {
         Node::False | Node::True | Node::Atom(_) => {}
         Node::Not(x) => {
-            let x = plan.term(x);
+            let x = term(terms, x);
             sink.rule(&[l], &[], &[x]);
             sink.rule(&[], &[l, x], &[]);
         }
         Node::And(x, y) => {
-            let (x, y) = (plan.term(x), plan.term(y));
+            let (x, y) = (term(terms, x), term(terms, y));
             sink.rule(&[x], &[l], &[]);
             sink.rule(&[y], &[l], &[]);
             sink.rule(&[l], &[x, y], &[]);
         }
         Node::Or(x, y) => {
-            let (x, y) = (plan.term(x), plan.term(y));
+            let (x, y) = (term(terms, x), term(terms, y));
             sink.rule(&[l], &[x], &[]);
             sink.rule(&[l], &[y], &[]);
             sink.rule(&[x, y], &[l], &[]);
         }
         Node::Implies(x, y) => {
-            let (x, y) = (plan.term(x), plan.term(y));
+            let (x, y) = (term(terms, x), term(terms, y));
             sink.rule(&[y], &[l, x], &[]);
             sink.rule(&[l], &[], &[x]);
             sink.rule(&[l], &[y], &[]);
@@ -100,9 +102,9 @@ fn node_rules(own: usize, node: Node, plan: &Plan, sink: &mut impl Sink) {
     }
 }
 
-fn root_rules(theory: &Theory, plan: &Plan, sink: &mut impl Sink) {
+fn root_rules(theory: &Theory, terms: &Terms, sink: &mut impl Sink) {
     for root in theory.roots() {
-        sink.rule(&[plan.term(root)], &[], &[]);
+        sink.rule(&[term(terms, root)], &[], &[]);
     }
 }
 

@@ -106,19 +106,20 @@ fn try_evaluate_theory(theory: &[u8], reading: &[u8]) -> Outcome<usize> {
 
 fn try_translate(theory: &[u8], out: &mut [u8]) -> Outcome<usize> {
     let theory = Theory::check(theory)?;
-    let plan = flatten::plan(&theory);
-    check_all(plan.all)?;
-    let out = check_room(out, HEADER + 10 * plan.rules)?;
+    let mut terms = flatten::NO_TERMS;
+    let size = flatten::measure(&theory, &mut terms);
+    check_all(size.all)?;
+    let out = check_room(out, HEADER + 10 * size.rules)?;
     let length = out.len() as u32;
     let (header, body) = out.split_at_mut(HEADER);
     header[0..2].copy_from_slice(&(theory.atoms as u16).to_le_bytes());
-    header[2..4].copy_from_slice(&(plan.all as u16).to_le_bytes());
-    header[4..6].copy_from_slice(&(plan.rules as u16).to_le_bytes());
+    header[2..4].copy_from_slice(&(size.all as u16).to_le_bytes());
+    header[4..6].copy_from_slice(&(size.rules as u16).to_le_bytes());
     header[6..8].fill(0);
     header[8..12].copy_from_slice(&(HEADER as u32).to_le_bytes());
     header[12..16].copy_from_slice(&length.to_le_bytes());
-    flatten::write(&theory, &plan, body);
-    Ok(plan.rules)
+    flatten::write(&theory, &terms, body);
+    Ok(size.rules)
 }
 
 fn try_extend(theory: &[u8], reading: &[u8], out: &mut [u8]) -> Outcome<usize> {
