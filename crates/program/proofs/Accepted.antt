@@ -14,7 +14,6 @@ use Rattle.wire.specs.Wire.{u16At, u32At}
 use Rattle.logic.proofs.Bools.{&&-split, ||-split}
 use Rattle.program.specs.Image.{atomCount, sizeOf, ruleCount, headerLength, ruleStart, imageLength, ruleSection, usedIn, slotsIn, slotKeeps, slotsKeep, ruleKeeps}
 use Rattle.program.specs.Rows.{outside, row22, row24, row25, row26, programRows}
-pub use Rattle.program.proofs.Rows.{numbered-programRows}
 
 -- ---- the rows
 

@@ -4,7 +4,7 @@ use mathlib.Core.List.{List, [], _∷_}
 use Prim.Native.Nat.{ℕ}
 use lib.Dec.{leb}
 use lib.ListN.{length}
-pub use Rattle.wire.specs.Wire.{allBelow}
+use Rattle.wire.specs.Wire.{allBelow}
 use Rattle.program.specs.Rule.{Rule}
 use Rattle.program.specs.Program.{Program}
 use Rattle.program.specs.Image.{literals}

@@ -37,7 +37,7 @@ use Rattle.program.specs.Program.{Program, satisfiesProgram, programFormulas}
 use Rattle.program.specs.Image.{sizeOf, ruleCount, ruleSection, ruleKeeps, imageLength, programOf, imageOf}
 use Rattle.program.specs.Rows.{row26, programRows}
 use Rattle.program.specs.Writable.{writable}
-use Rattle.program.proofs.Accepted as program-accepted
+use Rattle.program.proofs.Rows.{numbered-programRows}
 use Rattle.program.proofs.Lengths.{length-imageOf}
 use Rattle.program.proofs.Rules
 use Rattle.program.proofs.Reading as ReadingBack
@@ -78,7 +78,7 @@ checkProgram-unique : (p : List ℕ) (a b : Answer) → ChecksProgram p a → Ch
 checkProgram-unique p a b d e = d ∙ sym e
 
 checkProgram-exact : (p : List ℕ) → Exact (programRows p) 1 (checkProgram p)
-checkProgram-exact p = answer-exact (programRows p) 1 (program-accepted.numbered-programRows p)
+checkProgram-exact p = answer-exact (programRows p) 1 (numbered-programRows p)
 
 evaluateProgram-unique : (p r : List ℕ) (a b : Answer) → EvaluatesProgram p r a → EvaluatesProgram p r b → a ≡ b
 evaluateProgram-unique p r a b d e = d ∙ sym e

@@ -20,7 +20,8 @@ use Rattle.theory.specs.Rows.{theoryRows}
 use Rattle.program.specs.Rule.{RuleOf, Rule}
 use Rattle.program.specs.Image.{literals, programOf, imageOf}
 use Rattle.program.specs.Rows.{outside, programRows}
-use Rattle.program.specs.Writable.{allBelow, ruleWritable, rulesWritable, writable}
+use Rattle.wire.specs.Wire.{allBelow}
+use Rattle.program.specs.Writable.{ruleWritable, rulesWritable, writable}
 use Rattle.program.proofs.Reading.{imageOf-accepted, programOf-imageOf}
 use Rattle.flat.specs.Table.{Slot, x, y, L, M, rows, labelCount}
 use Rattle.flat.specs.Flat.{Term, constant, name, names, removes, reduce, simplify, fill, fact, mapRule, instances, termAt, flat}

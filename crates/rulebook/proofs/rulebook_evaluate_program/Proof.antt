@@ -11,7 +11,7 @@ use Rattle.refusal.proofs.Table.{answer-refused, answer-later, answer-both, non
 use Rattle.refusal.proofs.Rows.{numbered-argumentRows, none-argumentRows}
 use Rattle.program.specs.Image.{sizeOf}
 use Rattle.program.specs.Rows.{programRows}
-use Rattle.program.proofs.Accepted.{numbered-programRows}
+use Rattle.program.proofs.Rows.{numbered-programRows}
 use Rattle.rulebook.proofs.rulebook_evaluate_program.Statement.{statement}
 use Rattle.rulebook.proofs.rulebook_evaluate_program.Tie as tie
 

@@ -13,7 +13,7 @@ use Rattle.refusal.proofs.Table.{answer-refused, none-accepted}
 use Rattle.refusal.proofs.Rows.{numbered-argumentRows}
 use Rattle.program.specs.Image.{sizeOf}
 use Rattle.program.specs.Rows.{programRows}
-use Rattle.program.proofs.Accepted.{numbered-programRows}
+use Rattle.program.proofs.Rows.{numbered-programRows}
 use Rattle.rulebook.proofs.Candidate.{candidate-refused, candidate-large, candidate-accepted}
 use Rattle.rulebook.proofs.rulebook_test_program.Statement.{statement}
 use Rattle.rulebook.proofs.rulebook_test_program.Tie as tie
