@@ -13,6 +13,7 @@ use Rattle.logic.specs.Formula.{Formula, Reading, value, satisfies, AllOver}
 use Rattle.logic.specs.Atoms.{Atoms, reading, hereOf}
 use Rattle.logic.specs.AnswerSet.{AnswerSet}
 use Rattle.logic.proofs.Bools.{&&-split, &&-join, iff-equal}
+use Rattle.logic.proofs.Lists.{take-map}
 use Rattle.logic.proofs.Values.{up}
 use Rattle.logic.proofs.Formulas.{satisfies-append, satisfies-extended}
 use Rattle.logic.proofs.Sets.{inside-refl, hereOf-reading, length-reading}
@@ -25,11 +26,6 @@ use Rattle.flat.specs.Extension.{bookLabels, extend, Extends}
 use Rattle.flat.specs.OneToOne.{OneToOne}
 use Rattle.flat.proofs.Rules.{agree, rules-say}
 use Rattle.flat.proofs.Extensions.{agree-iff, extend-up, length-labels, length-extend, take-extend}
-
-map-take : {S T : Type 0} (f : S → T) (n : ℕ) (l : List S) → map f (take n l) ≡ take n (map f l)
-map-take f zero l = refl
-map-take f (suc n) [] = refl
-map-take f (suc n) (s ∷ l) = ap (λ r. f s ∷ r) (map-take f n l)
 
 take-reading : (n : ℕ) (T : Atoms) → take n (reading T T) ≡ reading (take n T) (take n T)
 take-reading zero T = refl
@@ -98,7 +94,7 @@ module _ (b : Book) (ok : WellFormed b) where
           let x : J ≡ extend b K = is-extension J e h in
           let k : satisfies K (bookFormulas b ++ Γ) ≡ true
           = sym (both-satisfied K (length-take-le (b .atoms) J (omega arith))) ∙ subst (λ j. satisfies j (programFormulas (flat b) ++ Γ) ≡ true) x h in
-          let t : map up K ≡ I = map-take up (b .atoms) J ∙ ap (take (b .atoms)) u ∙ take-extend b I (s .sized) in
+          let t : map up K ≡ I = sym (take-map up (b .atoms) J) ∙ ap (take (b .atoms)) u ∙ take-extend b I (s .sized) in
           x ∙ ap (extend b) (s .minimal K t k);
     }
 
@@ -106,7 +102,7 @@ module _ (b : Book) (ok : WellFormed b) where
         → Stable (flat b .size) (programFormulas (flat b) ++ Γ) (extend b I) → Stable (b .atoms) (bookFormulas b ++ Γ) I
     stable-drop I e s = record {
       sized = e;
-      total = sym (ap (map up) (take-extend b I e)) ∙ map-take up (b .atoms) (extend b I) ∙ ap (take (b .atoms)) (s .total) ∙ take-extend b I e;
+      total = sym (ap (map up) (take-extend b I e)) ∙ sym (take-map up (b .atoms) (extend b I)) ∙ ap (take (b .atoms)) (s .total) ∙ take-extend b I e;
       satisfied = sym (both-satisfied I e) ∙ s .satisfied;
       minimal = λ K u h.
           let k : length K ≡ b .atoms = sym (length-map K up) ∙ ap length u ∙ e in
@@ -136,7 +132,7 @@ module _ (b : Book) (ok : WellFormed b) where
           U,
           stable-iff (flat b .size) (programFormulas (flat b) ++ Γ) U .1
               (subst (Stable (flat b .size) (programFormulas (flat b) ++ Γ)) (sym (total-reading (extend b I) (st .total))) st),
-          sym (map-take trueHere (b .atoms) (extend b I)) ∙ ap hereOf (take-extend b I (length-reading T ∙ s .sized)) ∙ set-reading T,
+          take-map trueHere (b .atoms) (extend b I) ∙ ap hereOf (take-extend b I (length-reading T ∙ s .sized)) ∙ set-reading T,
         )
 
     pub one-to-one : OneToOne (b .atoms) (flat b .size) (bookFormulas b ++ Γ) (programFormulas (flat b) ++ Γ)

@@ -14,10 +14,10 @@ use Rattle.logic.specs.Formula.{Formula, falsum, neg, Reading, valueOf, value, 
 use Rattle.logic.proofs.Bools.{beq-sound, &&-split, &&-if}
 use Rattle.logic.proofs.Finite.{same, same-sound, agree₁}
 use Rattle.theory.specs.Book.{Kind, falseKind, trueKind, atomKind, notKind, andKind, orKind, impliesKind, Node, leftLimit, rightLimit, fits, allFit, say, formulaAt, formula, formulas}
-use Rattle.program.specs.Rule.{RuleOf, allHold}
+use Rattle.program.specs.Rule.{allHold}
 use Rattle.program.proofs.Rules.{allHold-append}
 use Rattle.flat.specs.Table.{labelCount}
-use Rattle.flat.specs.Flat.{Term, constant, simplify, termAt, nodeRules, termOf, term, facts, rulesFrom}
+use Rattle.flat.specs.Flat.{Term, constant, simplify, termAt, nodeRules, termOf, term, fact, facts, rulesFrom}
 use Rattle.flat.specs.Extension.{meanings, labels, labelsFrom}
 use Rattle.flat.proofs.Simplify.{termValue, simplify-holds}
 use Rattle.flat.proofs.OneNode.{labelled, one-node}
@@ -86,9 +86,8 @@ module _ (A : ℕ) (I J : Reading) (low : (a : ℕ) → a < A → valueOf J a �
       → allHold (valueOf J) (facts ts roots) ≡ satisfies I (map (formulaAt fs) roots)
   facts-say ts fs s [] = refl
   facts-say ts fs s (k ∷ ks) =
-      let fact : RuleOf Term = record { heads = termAt ts k ∷ []; positives = []; negatives = [] } in
-      allHold-append (valueOf J) (simplify fact) (facts ts ks)
-      ∙ ap₂ _&&_ (simplify-holds J fact ∙ fact-value (termValue J (termAt ts k)) ∙ ap trueHere (sound-at ts fs s k)) (facts-say ts fs s ks)
+      allHold-append (valueOf J) (simplify (fact (termAt ts k))) (facts ts ks)
+      ∙ ap₂ _&&_ (simplify-holds J (fact (termAt ts k)) ∙ fact-value (termValue J (termAt ts k)) ∙ ap trueHere (sound-at ts fs s k)) (facts-say ts fs s ks)
 
   pub rules-say : (roots : List ℕ) (ts : List Term) (fs : List Formula) → Sound ts fs → (i next : ℕ) (ns : List Node) → allFit A i ns ≡ true
       → allHold (valueOf J) (rulesFrom roots ts next ns)

@@ -1,7 +1,7 @@
 -- Filling slots and removing constants keep what a rule says: a constant is a term with a fixed value, so dropping it or the rule changes nothing.
 use mathlib.Core.Path.{_≡_, refl, sym, _∙_, ap₂}
 use mathlib.Core.Bool.{Bool, true, false, _&&_, _||_, and-true, cond, Bool·beq}
-use mathlib.Core.List.{List, [], _∷_, map}
+use mathlib.Core.List.{List, [], _∷_}
 use lib.Dec.{leb}
 use Rattle.logic.specs.declared.Value.{Value}
 use Rattle.logic.specs.declared.Value.the-variants.{Neither, Both}
@@ -10,7 +10,7 @@ use Rattle.logic.specs.Formula.{Reading, valueOf}
 use Rattle.logic.proofs.Bools.{beq-sound}
 use Rattle.logic.proofs.Finite.{same, same-sound, agree₁, agree₂, agree₃}
 use Rattle.program.specs.Rule.{RuleOf, Rule, smallest, largest, holds, allHold}
-use Rattle.program.proofs.Rules.{allHold-append}
+use Rattle.program.proofs.Rules.{smallest-map, largest-map, allHold-append}
 use Rattle.flat.specs.Table.{Slot}
 use Rattle.flat.specs.Flat.{Term, constant, name, has, names, simplify, mapRule, instances}
 
@@ -26,16 +26,8 @@ termValue J (name a) = valueOf J a
 -- Filling slots.
 
 module _ {S T : Type 0} (f : S → T) where
-  smallest-map : (v : T → Value) (ss : List S) → smallest v (map f ss) ≡ smallest (λ s. v (f s)) ss
-  smallest-map v [] = refl
-  smallest-map v (s ∷ ss) = rw (smallest-map v ss)
-
-  largest-map : (v : T → Value) (ss : List S) → largest v (map f ss) ≡ largest (λ s. v (f s)) ss
-  largest-map v [] = refl
-  largest-map v (s ∷ ss) = rw (largest-map v ss)
-
   holds-map : (v : T → Value) (r : RuleOf S) → holds v (mapRule f r) ≡ holds (λ s. v (f s)) r
-  holds-map v r = rw (smallest-map v (r .positives), smallest-map (λ s. negation (v s)) (r .negatives), largest-map v (r .heads))
+  holds-map v r = rw (smallest-map f v (r .positives), smallest-map f (λ s. negation (v s)) (r .negatives), largest-map f v (r .heads))
 
 -- Removing constants.
 

@@ -1,6 +1,8 @@
--- A law of values holds if a test that is computed at all of them passes: there are three.
+-- A law of values holds if a test that is computed at all of them passes: there are three. So does one of the numbers below a bound.
 use mathlib.Core.Path.{_≡_, refl}
 use mathlib.Core.Bool.{Bool, true, _&&_}
+use Prim.Native.Nat.{ℕ, zero, suc, _<_}
+use native.Mathlib.Nat.{le-of-suc-le-suc, not-suc-le-zero}
 use lib.Dec.{eqb}
 use Rattle.logic.specs.declared.Value.{Value}
 use Rattle.logic.specs.declared.Value.the-variants.{Neither, There, Both}
@@ -51,3 +53,13 @@ module _ {R : Type 0} (test : R → R → Bool) (sound : (a b : R) → test a b 
       → every (λ a. every (λ b. every (λ c. every (λ d. test (f a b c d) (g a b c d))))) ≡ true
       → (a b c d : Value) → f a b c d ≡ g a b c d
   agree₄ f g h a = agree₃ (f a) (g a) (every-at (λ a. every (λ b. every (λ c. every (λ d. test (f a b c d) (g a b c d))))) h a)
+
+-- The test passes at every number below n.
+abbrev pub all : (ℕ → Bool) → ℕ → Bool
+all p zero = true
+all p (suc n) = p 0 && all (λ k. p (suc k)) n
+
+pub all-at : (p : ℕ → Bool) (n : ℕ) → all p n ≡ true → (k : ℕ) → k < n → p k ≡ true
+all-at p zero t k h = absurd (not-suc-le-zero h)
+all-at p (suc n) t zero h = &&-split (p 0) (all (λ k. p (suc k)) n) t .0
+all-at p (suc n) t (suc k) h = all-at (λ k. p (suc k)) n (&&-split (p 0) (all (λ k. p (suc k)) n) t .1) k (le-of-suc-le-suc h)

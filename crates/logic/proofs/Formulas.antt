@@ -1,14 +1,20 @@
--- Laws of the value of formulas and of satisfaction, by induction on the formula or on the list.
+-- Laws of readings, of the value of formulas and of satisfaction, by induction on the formula or on the list.
 use mathlib.Core.Path.{_≡_, refl, sym, ap₂}
 use mathlib.Core.Logic.{_↔_, ⊎-elim}
 use mathlib.Core.Bool.{true, _&&_, and-assoc}
 use mathlib.Core.List.{List, [], _∷_, _++_, map, List·Memᴰ, List·Memᴰ·head, List·Memᴰ·tail, List·Memᴰ·cases-cons, List·Memᴰ·not-nil}
 use lib.ListN.{length, List·getD-append, List·getD-map}
+use Rattle.logic.specs.declared.Value.{Value}
 use Rattle.logic.specs.declared.Value.the-variants.{Neither, Both}
-use Rattle.logic.specs.Value.{trueHere}
-use Rattle.logic.specs.Formula.{Formula, falsum, verum, atom, neg, conj, disj, impl, Reading, value, satisfies, Over, AllOver}
+use Rattle.logic.specs.Value.{number, trueHere}
+use Rattle.logic.specs.Formula.{Formula, falsum, verum, atom, neg, conj, disj, impl, Reading, readingOf, value, satisfies, Over, AllOver}
 use Rattle.logic.proofs.Bools.{&&-split, &&-join}
-use Rattle.logic.proofs.Values.{trueHere-iff, up, up-smaller, up-larger, up-negation, up-implication}
+use Rattle.logic.proofs.Values.{ofByte-number, trueHere-iff, up, up-smaller, up-larger, up-negation, up-implication}
+
+-- The bytes of values stand for those values.
+pub readingOf-number : (vs : List Value) → readingOf (map number vs) ≡ vs
+readingOf-number [] = refl
+readingOf-number (v ∷ vs) = ap₂ _∷_ (ofByte-number v) (readingOf-number vs)
 
 -- A list of formulas is satisfied exactly if each of them has the value 2.
 pub satisfies-each : (I : Reading) (Γ : List Formula) → (satisfies I Γ ≡ true) ↔ ((f : Formula) → List·Memᴰ f Γ → value I f ≡ Both)

@@ -1,5 +1,6 @@
 pub mod Bools
 pub mod Finite
+pub mod Lists
 pub mod Values
 pub mod Formulas
 pub mod Sets

@@ -47,6 +47,16 @@ module _ (J : Reading) where
   pub program-value : (p : Program) → satisfies J (programFormulas p) ≡ satisfiesProgram J p
   program-value p = rules-value (p .rules)
 
+-- The smallest and the largest value of a mapped list.
+module _ {S T : Type 0} (f : S → T) where
+  pub smallest-map : (v : T → Value) (l : List S) → smallest v (map f l) ≡ smallest (λ s. v (f s)) l
+  smallest-map v [] = refl
+  smallest-map v (s ∷ l) = rw (smallest-map v l)
+
+  pub largest-map : (v : T → Value) (l : List S) → largest v (map f l) ≡ largest (λ s. v (f s)) l
+  largest-map v [] = refl
+  largest-map v (s ∷ l) = rw (largest-map v l)
+
 pub allHold-append : {S : Type 0} (v : S → Value) (rs qs : List (RuleOf S)) → allHold v (rs ++ qs) ≡ (allHold v rs && allHold v qs)
 allHold-append v [] qs = refl
 allHold-append v (r ∷ rs) qs = rw (allHold-append v rs qs) (sym (and-assoc (holds v r) (allHold v rs) (allHold v qs)))

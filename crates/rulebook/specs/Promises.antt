@@ -51,6 +51,7 @@ use Rattle.flat.proofs.Demand3
 use Rattle.flat.proofs.BenchCases as programs
 use Rattle.translation.specs.Outcome.{ruleTotal, translateRows, extendRows}
 use Rattle.translation.proofs.Bytes
+use Rattle.translation.proofs.Labels
 use Rattle.stable.specs.Subset.{setOf}
 use Rattle.stable.specs.Number.{numberOf}
 use Rattle.stable.specs.Listing.{setsOf as bookSets, setsRows, listing, Ascending}
@@ -260,7 +261,7 @@ module _ (t o : List ℕ) (ok : none (translateCallRows t o) ≡ true) where
     reading-accepted = Bytes.extendRows-reading t r (length e) (none-split (theoryRows t) (extendRows t r (length e)) fits .1)
 
     extend-wrote : x ≡ map number (extension (bookOf t) (readingOf r))
-    extend-wrote = Outcome.written-part (extendCallRows t r e) (flat (bookOf t) .size) (λ n. n) _ e (Bytes.length-extension t r reading-accepted) fits
+    extend-wrote = Outcome.written-part (extendCallRows t r e) (flat (bookOf t) .size) (λ n. n) _ e (Labels.length-extension t r theory-accepted reading-accepted) fits
 
     bytes-satisfied : evaluateProgram p x ≡ evaluateTheory t r
     bytes-satisfied = Bytes.bytes-evaluated t theory-accepted p translate-wrote r reading-accepted x extend-wrote

@@ -17,7 +17,7 @@ use Rattle.logic.specs.Value.{number, ofByte, trueHere}
 use Rattle.logic.specs.Formula.{readingOf}
 use Rattle.logic.specs.Atoms.{Atoms, mark, reading, hereOf}
 use Rattle.logic.proofs.Sets.{inside-refl, hereOf-reading, length-reading}
-use Rattle.theory.proofs.NodeValues.{readingOf-number}
+use Rattle.logic.proofs.Formulas.{readingOf-number}
 use Rattle.stable.specs.Subset.{setOf, candidateOf, odd, subset, Candidate, lowered}
 use Rattle.stable.specs.Number.{setOfNumber}
 use Rattle.stable.proofs.Digits.{digit-odd}

@@ -1,14 +1,12 @@
 -- The code's rule table is the definitions' rule table: each kind's rows are computed and compared. Assumes nothing.
 use mathlib.Core.Path.{_≡_, refl}
-use mathlib.Core.Bool.{Bool, true, _&&_}
 use mathlib.Core.List.{List, []}
 use Prim.Native.Nat.{ℕ, zero, suc, _+_, _≤_, _<_}
-use native.Mathlib.Nat.{le-of-suc-le-suc, not-suc-le-zero}
 use native.Mathlib.Omega.{arith}
 use lib.Dec.{leb, ltb}
 use lib.ListN.{getD}
 use borrow.Author.Tests.{leb-true, ltb-true}
-use Rattle.logic.proofs.Bools.{&&-split}
+use Rattle.logic.proofs.Finite.{all, all-at}
 use Rattle.wire.specs.Sequence.{upTo}
 use Rattle.theory.specs.Image.{kindOf}
 use Rattle.flat.specs.Table.{rows, labelCount}
@@ -33,16 +31,6 @@ shapes-rows = kinds-cases (λ k. upTo (λ j. shapeRule (kindShape k j)) (rowCoun
 -- and its labels are counted.
 pub labels-count : (k : ℕ) → k < 7 → labelsOf k ≡ labelCount (kindOf k)
 labels-count = kinds-cases (λ k. labelsOf k ≡ labelCount (kindOf k)) refl refl refl refl refl refl refl
-
--- A test that passes at every number below n passes at each.
-abbrev all : (ℕ → Bool) → ℕ → Bool
-all p zero = true
-all p (suc n) = p zero && all (λ i. p (suc i)) n
-
-all-at : (p : ℕ → Bool) (n : ℕ) → all p n ≡ true → (k : ℕ) → k < n → p k ≡ true
-all-at p zero t k h = absurd (not-suc-le-zero h)
-all-at p (suc n) t zero h = &&-split (p zero) (all (λ i. p (suc i)) n) t .0
-all-at p (suc n) t (suc k) h = all-at (λ i. p (suc i)) n (&&-split (p zero) (all (λ i. p (suc i)) n) t .1) k (le-of-suc-le-suc h)
 
 -- A row has at most three literals, and its slots name x, y, L or M.
 pub shape-fillable : (i : ℕ) → i < 14 → Fillable (getD shapes i [])

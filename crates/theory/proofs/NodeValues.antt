@@ -1,14 +1,13 @@
 -- Laws of the nodes' values: a node's value is made of those before it, as its formula is made of their formulas. By cases on the kind.
-use mathlib.Core.Path.{_≡_, refl, ap, ap₂, _∙_}
+use mathlib.Core.Path.{_≡_, refl, ap, _∙_}
 use mathlib.Core.List.{List, [], _∷_, _++_, map, map-append}
 use Prim.Native.Nat.{ℕ, _+_, _<_}
 use native.Mathlib.Nat.{zero-add}
 use lib.ListN.{length, take, set, length-map, List·getD-map}
 use lib.Seq.{take-at}
-use Rattle.logic.specs.declared.Value.{Value}
 use Rattle.logic.specs.Value.{number}
 use Rattle.logic.specs.Formula.{Formula, falsum, Reading, readingOf, value, valueOf}
-use Rattle.logic.proofs.Values.{ofByte-number}
+use Rattle.logic.proofs.Formulas.{readingOf-number}
 use Rattle.wire.specs.Wire.{over}
 use Rattle.wire.specs.Sequence.{upTo}
 use Rattle.wire.proofs.Laws.{over-store}
@@ -42,11 +41,6 @@ pub valuesTo-more : (I : Reading) (s : List ℕ) (k : ℕ) → valuesTo I s (k +
 valuesTo-more I s k =
     let fs : List Formula = formulas [] (upTo (nodeIn s) k) in
     rw (formulas-upTo, map-append) (ap (λ v. map (value I) fs ++ (v ∷ [])) (value-formula I fs (nodeIn s k)))
-
--- The bytes of values stand for those values.
-pub readingOf-number : (vs : List Value) → readingOf (map number vs) ≡ vs
-readingOf-number [] = refl
-readingOf-number (v ∷ vs) = ap₂ _∷_ (ofByte-number v) (readingOf-number vs)
 
 -- What a writer of values has written so far, as it reads it back and after one store more.
 module _ (I : Reading) (s old : List ℕ) (k : ℕ) where

@@ -1,12 +1,10 @@
 -- Demand 3 of the bytes: the flat program of an accepted image passes the program check and reads back, so what was proved of book and program holds of the images and of the extension's bytes.
-use mathlib.Core.Path.{_≡_, refl, sym, ap, ap₂, _∙_}
-use mathlib.Core.Bool.{Bool, true, false, _||_}
+use mathlib.Core.Path.{_≡_, refl, sym, ap, _∙_}
+use mathlib.Core.Bool.{true, false}
 use mathlib.Core.List.{List, [], _∷_, _++_, map}
-use Prim.Native.Nat.{ℕ, zero, suc, _≤_, _<_}
-use native.Mathlib.Omega.{arith}
-use lib.Dec.{ltb}
+use Prim.Native.Nat.{ℕ}
 use lib.ListN.{length, getD, take, length-map, List·getD-map}
-use borrow.Author.Tests.{le-ltb, eq-eqb, ltb-false}
+use borrow.Author.Tests.{le-ltb, eq-eqb}
 use Rattle.refusal.specs.Table.{none, yes, answer, accepted}
 use Rattle.refusal.specs.Rows.{wrong, row8, row14, argumentRows, readingRows}
 use Rattle.refusal.proofs.Table.{answer-both, answer-yes, none-cons, none-split}
@@ -16,12 +14,13 @@ use Rattle.logic.specs.declared.Value.the-variants.{Neither}
 use Rattle.logic.specs.Value.{number, ofByte}
 use Rattle.logic.specs.Formula.{Formula, Reading, readingOf, satisfies, AllOver}
 use Rattle.logic.proofs.Bools.{iff-equal}
-use Rattle.logic.proofs.Values.{number-ofByte, number-small}
+use Rattle.logic.proofs.Values.{number-small}
 use Rattle.theory.specs.Book.{bookFormulas}
 use Rattle.theory.specs.Image.{atomCount, bookOf}
 use Rattle.theory.specs.Rows.{theoryRows}
 use Rattle.theory.proofs.Accepted
-use Rattle.theory.proofs.NodeValues.{readingOf-number}
+use Rattle.logic.proofs.Formulas.{readingOf-number}
+use Rattle.logic.proofs.Lists.{take-map}
 use Rattle.program.specs.Program.{Program, satisfiesProgram, programFormulas}
 use Rattle.program.specs.Image.{sizeOf, programOf, imageOf}
 use Rattle.program.specs.Rows.{programRows}
@@ -31,28 +30,13 @@ use Rattle.flat.specs.OneToOne.{OneToOne}
 use Rattle.flat.proofs.Extensions.{length-extend}
 use Rattle.flat.proofs.Demand3.{extension-satisfies, extension-only, one-to-one}
 use Rattle.translation.specs.Outcome.{extendRows}
+use Rattle.translation.proofs.Labels.{reading-bytes, atoms-bookOf, readingOf-long}
 use Rattle.translation.proofs.Writable.{translated-accepted, translated-read}
 
 -- Bytes of readings.
 
-number-readingOf : (r : List ℕ) → ((i : ℕ) → i < length r → wrong false (getD r i 0) ≡ false) → map number (readingOf r) ≡ r
-number-readingOf [] h = refl
-number-readingOf (b ∷ r) h = ap₂ _∷_ (number-ofByte b (small b (h 0 (omega arith)))) (number-readingOf r (λ i l. h (suc i) (omega arith)))
-  where
-    small : (b : ℕ) → wrong false b ≡ false → b ≤ 2
-    small b w = ltb-false 2 b (left (ltb 2 b) w)
-      where
-        left : (x : Bool) → (x || false) ≡ false → x ≡ false
-        left true w = w
-        left false w = refl
-
 number-right : (I : Reading) (i : ℕ) → wrong false (getD (map number I) i 0) ≡ false
 number-right I i = rw (List·getD-map number I i Neither, le-ltb 2 (number (getD I i Neither)) (number-small (getD I i Neither)))
-
-take-readingOf : (n : ℕ) (r : List ℕ) → take n (readingOf r) ≡ readingOf (take n r)
-take-readingOf zero r = refl
-take-readingOf (suc n) [] = refl
-take-readingOf (suc n) (b ∷ r) = ap (λ l. ofByte b ∷ l) (take-readingOf n r)
 
 reading-accepted : (I : Reading) (n : ℕ) → length I ≡ n → none (readingRows n (map number I)) ≡ true
 unfolding argumentRows
@@ -60,24 +44,12 @@ reading-accepted I n e =
     let size : length (map number I) ≡ n = length-map I number ∙ e in
     rw (eq-eqb (length (map number I)) n size, firstSuch-none 10 (λ i. wrong false (getD (map number I) i 0)) (length (map number I)) .1 (λ i l. number-right I i))
 
-atoms-are : (t : List ℕ) → bookOf t .atoms ≡ atomCount t
-unfolding bookOf
-atoms-are t = refl
-
 -- An extension that is not refused has a reading that is not refused.
 pub extendRows-reading : (t r : List ℕ) (room : ℕ) → none (extendRows t r room) ≡ true → none (readingRows (atomCount t) r) ≡ true
 unfolding extendRows
 extendRows-reading t r room h =
     let B : ℕ = flat (bookOf t) .size in
     none-split (readingRows (atomCount t) r) (row8 B room ∷ []) (none-cons (row14 B) (readingRows (atomCount t) r ++ (row8 B room ∷ [])) h .1) .0
-
--- The extension of an accepted reading has B bytes.
-module _ (t r : List ℕ) (read : none (readingRows (atomCount t) r) ≡ true) where
-  long : length (readingOf r) ≡ bookOf t .atoms
-  long = length-map r ofByte ∙ none-argumentRows false (atomCount t) r read .0 ∙ sym (atoms-are t)
-
-  pub length-extension : length (map number (extend (bookOf t) (readingOf r))) ≡ flat (bookOf t) .size
-  length-extension = length-map (extend (bookOf t) (readingOf r)) number ∙ length-extend (bookOf t) (readingOf r) long
 
 -- A theory image that the check accepts, and the image of its program.
 module _ (t : List ℕ) (ok : none (theoryRows t) ≡ true) (p : List ℕ) (wrote : p ≡ imageOf (flat (bookOf t))) where
@@ -95,16 +67,16 @@ module _ (t : List ℕ) (ok : none (theoryRows t) ≡ true) (p : List ℕ) (wrot
   -- The answer sets match one to one beside further formulas over the theory's atoms.
   pub bytes-one-to-one : (Γ : List Formula) → AllOver (atomCount t) Γ
       → OneToOne (atomCount t) (sizeOf p) (bookFormulas (bookOf t) ++ Γ) (programFormulas (programOf p) ++ Γ)
-  bytes-one-to-one Γ over = rw (size-is, program-read, ← atoms-are t) (one-to-one (bookOf t) (Accepted.accepted-wellFormed t ok) Γ (rw atoms-are over))
+  bytes-one-to-one Γ over = rw (size-is, program-read, ← atoms-bookOf t) (one-to-one (bookOf t) (Accepted.accepted-wellFormed t ok) Γ (rw atoms-bookOf over))
 
   -- A reading of the theory's atoms, and its extension.
   module _ (r : List ℕ) (read : none (readingRows (atomCount t) r) ≡ true) (x : List ℕ) (extended : x ≡ map number (extend (bookOf t) (readingOf r))) where
     accepted-x : none (readingRows (sizeOf p) x) ≡ true
-    accepted-x = rw (extended, size-is) (reading-accepted (extend (bookOf t) (readingOf r)) (flat (bookOf t) .size) (length-extend (bookOf t) (readingOf r) (long t r read)))
+    accepted-x = rw (extended, size-is) (reading-accepted (extend (bookOf t) (readingOf r)) (flat (bookOf t) .size) (length-extend (bookOf t) (readingOf r) (readingOf-long t r ok read)))
 
     satisfied-x : satisfiesProgram (readingOf x) (programOf p) ≡ satisfies (readingOf r) (bookFormulas (bookOf t))
     satisfied-x = rw (extended, readingOf-number (extend (bookOf t) (readingOf r)), program-read)
-        (iff-equal _ _ (extension-satisfies (bookOf t) (Accepted.accepted-wellFormed t ok) (readingOf r) (long t r read)))
+        (iff-equal _ _ (extension-satisfies (bookOf t) (Accepted.accepted-wellFormed t ok) (readingOf r) (readingOf-long t r ok read)))
 
     -- The program answers on the extension what the theory answers on the reading,
     pub bytes-evaluated : answer (programRows p ++ readingRows (sizeOf p) x) (yes (satisfiesProgram (readingOf x) (programOf p)))
@@ -122,7 +94,7 @@ module _ (t : List ℕ) (ok : none (theoryRows t) ≡ true) (p : List ℕ) (wrot
         let both = answer-yes (programRows p ++ readingRows (sizeOf p) j) (satisfiesProgram (readingOf j) (programOf p)) refl says in
         let right = none-argumentRows false (sizeOf p) j (none-split (programRows p) (readingRows (sizeOf p) j) (both .0) .1) in
         let extends : Extends (bookOf t) (readingOf r) (readingOf j)
-        = record { sized = length-map j ofByte ∙ right .0 ∙ size-is; same-atoms = rw atoms-are (take-readingOf (atomCount t) j ∙ ap readingOf e) } in
-        sym (number-readingOf j (right .1))
+        = record { sized = length-map j ofByte ∙ right .0 ∙ size-is; same-atoms = rw atoms-bookOf (take-map ofByte (atomCount t) j ∙ ap readingOf e) } in
+        sym (reading-bytes j (right .1))
         ∙ ap (map number) (extension-only (bookOf t) (Accepted.accepted-wellFormed t ok) (readingOf r) (readingOf j) extends (rw program-read at (both .1)))
         ∙ sym extended

@@ -100,13 +100,16 @@ reading-bytes (b ∷ bytes) h =
 
 -- ---- the whole extension
 
-atoms-bookOf : (t : List ℕ) → bookOf t .atoms ≡ atomCount t
+pub atoms-bookOf : (t : List ℕ) → bookOf t .atoms ≡ atomCount t
 unfolding bookOf
 atoms-bookOf t = refl
 
 module _ (t reading : List ℕ) (ok : none (theoryRows t) ≡ true) (fine : none (readingRows (atomCount t) reading) ≡ true) where
   pub reading-long : length reading ≡ atomCount t
   reading-long = none-argumentRows false (atomCount t) reading fine .0
+
+  pub readingOf-long : length (readingOf reading) ≡ bookOf t .atoms
+  readingOf-long = length-map reading ofByte ∙ reading-long ∙ sym (atoms-bookOf t)
 
   -- The nodes' values, as they are written over a scratch.
   pub scratch-values : (scratch old : List ℕ) → scratch ≡ over (map number (nodeValues (bookOf t) (readingOf reading))) old
@@ -126,5 +129,4 @@ module _ (t reading : List ℕ) (ok : none (theoryRows t) ≡ true) (fine : none
 
   -- They are B bytes.
   pub length-extension : length (map number (extend (bookOf t) (readingOf reading))) ≡ sizeOf t
-  length-extension =
-      length-map (extend (bookOf t) (readingOf reading)) number ∙ length-extend (bookOf t) (readingOf reading) (length-map reading ofByte ∙ reading-long ∙ sym (atoms-bookOf t))
+  length-extension = length-map (extend (bookOf t) (readingOf reading)) number ∙ length-extend (bookOf t) (readingOf reading) readingOf-long

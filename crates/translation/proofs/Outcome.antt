@@ -1,19 +1,18 @@
--- What translation and extension answer at each of their returns, by the rows' tests; and their rows have numbers of their own. Assumes nothing.
-use mathlib.Core.Path.{_≡_, refl, ap, _∙_}
+-- What translation and extension answer at each of their returns, by the rows' tests. Assumes nothing.
+use mathlib.Core.Path.{_≡_, refl}
 use mathlib.Core.Bool.{true, false}
 use mathlib.Core.List.{List, [], _∷_, _++_, map}
 use Prim.Native.Nat.{ℕ, _≤_, _<_}
 use lib.ListN.{length}
 use borrow.Author.Tests.{lt-ltb, le-ltb}
 use Rattle.refusal.specs.Limits.{mostB}
-use Rattle.refusal.specs.Table.{Row, refused, accepted, answer, none, Exact}
-use Rattle.refusal.specs.Rows.{row8, argumentRows, readingRows}
+use Rattle.refusal.specs.Table.{Row, refused, accepted, answer, none}
+use Rattle.refusal.specs.Rows.{row8, readingRows}
 use Rattle.refusal.specs.declared.Answer.{Answer}
-use Rattle.refusal.proofs.Table.{none-cons, answer-past, answer-none, answer-refused, answer-exact}
+use Rattle.refusal.proofs.Table.{answer-past, answer-refused, none-past, none-refused}
 use Rattle.wire.specs.Wire.{over}
 use Rattle.logic.specs.Value.{number}
 use Rattle.logic.specs.Formula.{readingOf}
-use Rattle.logic.proofs.Bools.{false-of}
 use Rattle.theory.specs.Image.{atomCount, bookOf}
 use Rattle.program.specs.Image.{imageLength, imageOf}
 use Rattle.flat.specs.Flat.{flat}
@@ -38,22 +37,6 @@ module _ (t out : List ℕ) where
   unfolding translateRows translated
   translate-all h l = rw (le-ltb mostB (sizeOf t) h, le-ltb (length out) (imageLength (ruleTotal t)) l) (refl, refl)
 
--- The answer of a translation is exact.
-pub translate-exact : (t : List ℕ) (room : ℕ) → Exact (translateRows t room) (ruleTotal t) (answer (translateRows t room) (ruleTotal t))
-unfolding translateRows
-translate-exact t room = answer-exact (translateRows t room) (ruleTotal t) refl
-
--- ---- extension
-
--- Where the answer refuses, some row applies.
-none-refused : (rs : List Row) (x : ℕ) → (answer rs x .number ≡ 0 → ⊥) → none rs ≡ false
-none-refused rs x h = false-of (none rs) (λ n. h (ap (λ (a : Answer). a .number) (answer-none rs x n)))
-
--- Rows of which none applies leave it to those behind whether one does.
-none-past : (rs qs : List Row) → none rs ≡ true → none (rs ++ qs) ≡ none qs
-none-past [] qs h = refl
-none-past (r ∷ rs) qs h = let n = none-cons r rs h in rw (n .0) (none-past rs qs (n .1))
-
 module _ (t reading out : List ℕ) where
   abbrev rows : List Row
   rows = extendRows t reading (length out)
@@ -71,7 +54,7 @@ module _ (t reading out : List ℕ) where
       let rs = readingRows (atomCount t) reading in
       let qs : List Row = row8 (sizeOf t) (length out) ∷ [] in
       let all : a ≡ answer (rs ++ qs) (sizeOf t) = answer-refused rs qs 0 (sizeOf t) e refuses in
-      let some : none (rs ++ qs) ≡ false = none-refused (rs ++ qs) (sizeOf t) (λ z. refuses (ap (λ (b : Answer). b .number) all ∙ z)) in
+      let some : none (rs ++ qs) ≡ false = none-refused (rs ++ qs) (sizeOf t) all refuses in
       rw (le-ltb mostB (sizeOf t) h) (all, rw some)
 
   -- The room is too short: row 8 refuses.
@@ -91,8 +74,3 @@ module _ (t reading out : List ℕ) where
       let rs = readingRows (atomCount t) reading in
       let qs : List Row = row8 (sizeOf t) (length out) ∷ [] in
       rw (le-ltb mostB (sizeOf t) h, answer-past rs qs (sizeOf t) fine, none-past rs qs fine, le-ltb (length out) (sizeOf t) l) (refl, refl)
-
--- The answer of an extension is exact.
-pub extend-exact : (t reading : List ℕ) (room : ℕ) → Exact (extendRows t reading room) (sizeOf t) (answer (extendRows t reading room) (sizeOf t))
-unfolding extendRows argumentRows
-extend-exact t reading room = answer-exact (extendRows t reading room) (sizeOf t) refl

@@ -44,6 +44,7 @@ fn right_at(nodes: &[u8], k: usize) -> usize
     wire::u16_at(nodes, k * 6 + 4)
 }
 
+// The number of a term, as the scratch holds it.
 fn wide_term(term: u16) -> usize
     ensures { λ r. ⌜ (r ≡ term) × (r < 65536) ⌝ }
 {
