@@ -269,8 +269,8 @@ fn count(theory: &[u8], terms: &[u16; refusal::MOST_NODES]) -> usize
     requires { ⌜ (none (theoryRows (now theory)) ≡ true) × Numbered (now theory) (now terms) ⌝ }
     ensures { λ r. ⌜ (r ≡ ruleTotal (now (theory .entry))) × (r ≤ mostRules) ⌝ }
 {
+    let start = theory::roots_start(theory);
     let nodes = theory::nodes(theory);
-    let start = 16 + nodes * 6;
     let rules = count_rules(&theory[16..], nodes, theory::atoms(theory), terms);
     rules + count_facts(&theory[start..], theory::roots(theory), terms)
 }
@@ -282,8 +282,8 @@ fn write_rules(theory: &[u8], out: &mut [u8], terms: &[u16; refusal::MOST_NODES]
     ensures { λ r. ⌜ r ≡ length (rulesBytes (flat (bookOf (now (theory .entry))) .rules)) ⌝ }
     ensures { λ _. ⌜ now (out .exit) ≡ over (rulesBytes (flat (bookOf (now (theory .entry))) .rules)) (now (out .entry)) ⌝ }
 {
+    let start = theory::roots_start(theory);
     let nodes = theory::nodes(theory);
-    let start = 16 + nodes * 6;
     let at = write_nodes(out, &theory[16..], nodes, theory::atoms(theory), terms);
     at
         + write_facts(

@@ -11,70 +11,66 @@ use borrow.Author.Needs.{needs}
 use Rattle.translation.proofs.count.Statement.{statement}
 use Rattle.translation.proofs.count.Tie as tie
 
+roots-start-requires : tie.Need-roots-start-requires
+roots-start-requires c κs = accepted _ (c .before .pre .0) .header .long
+
 nodes-requires : tie.Need-nodes-requires
-nodes-requires c κs = accepted _ (c .before .pre .0) .header .long
-
-mul-start : tie.Need-mul-start
-mul-start c = search needs
-
-add-start : tie.Need-add-start
-add-start c = search needs
+nodes-requires c κs = accepted _ (c .before .before .pre .0) .header .long
 
 sub-count-rules : tie.Need-sub-count-rules
-sub-count-rules c = accepted _ (c .before .before .pre .0) .header .long
+sub-count-rules c = accepted _ (c .before .before .before .pre .0) .header .long
 
 part-count-rules-start : tie.Need-part-count-rules-start
-part-count-rules-start c = accepted _ (c .before .before .pre .0) .header .long
+part-count-rules-start c = accepted _ (c .before .before .before .pre .0) .header .long
 
 part-count-rules-end : tie.Need-part-count-rules-end
 part-count-rules-end c = search needs
 
 atoms-requires : tie.Need-atoms-requires
-atoms-requires c κs = accepted _ (c .before .before .before .pre .0) .header .long
+atoms-requires c κs = accepted _ (c .before .before .before .before .pre .0) .header .long
 
 count-rules-requires : tie.Need-count-rules-requires
 count-rules-requires c κs =
-    let start = c .before .before .before .before in
+    let start = c .before .before .before .before .before in
     rw (c .atoms .ensures .0, c .before .before .nodes .ensures .0, part-from) (nodes-accepted _ (start .pre .0), start .pre .1)
 
 sub-count-facts : tie.Need-sub-count-facts
-sub-count-facts c = rw (c .before .before .before .nodes .ensures .0) (omega (arith, accepted _ (c .before .before .before .before .before .pre .0) .header .whole))
+sub-count-facts c = rw (c .before .before .before .before .roots-start .ensures .0) (omega (arith, accepted _ (c .before .before .before .before .before .before .pre .0) .header .whole))
 
 part-count-facts-start : tie.Need-part-count-facts-start
-part-count-facts-start c = rw (c .before .before .before .nodes .ensures .0) (omega (arith, accepted _ (c .before .before .before .before .before .pre .0) .header .whole))
+part-count-facts-start c = rw (c .before .before .before .before .roots-start .ensures .0) (omega (arith, accepted _ (c .before .before .before .before .before .before .pre .0) .header .whole))
 
 part-count-facts-end : tie.Need-part-count-facts-end
 part-count-facts-end c = search needs
 
 roots-requires : tie.Need-roots-requires
-roots-requires c κs = accepted _ (c .before .before .before .before .before .before .pre .0) .header .long
+roots-requires c κs = accepted _ (c .before .before .before .before .before .before .before .pre .0) .header .long
 
 count-facts-requires : tie.Need-count-facts-requires
 count-facts-requires c κs =
-    let start = c .before .before .before .before .before .before .before in
-    rw (c .before .before .before .before .before .nodes .ensures .0, c .roots .ensures .0, part-from) (roots-within _ (start .pre .0))
+    let start = c .before .before .before .before .before .before .before .before in
+    rw (part-from, c .before .before .before .before .before .before .roots-start .ensures .0, c .roots .ensures .0) (roots-within _ (start .pre .0))
 
 -- the sum is K
-total : (c : tie.After-count-facts) → c .before .before .before .count-rules .result + c .count-facts .result ≡ ruleTotal (now (c .before .before .before .before .before .before .before .before .args .theory))
+total : (c : tie.After-count-facts) → c .before .before .before .count-rules .result + c .count-facts .result ≡ ruleTotal (now (c .before .before .before .before .before .before .before .before .before .args .theory))
 total c =
-    let start = c .before .before .before .before .before .before .before .before in
-    let facts = rw (c .before .before .before .before .before .before .nodes .ensures .0, c .before .roots .ensures .0, part-from) at (c .count-facts .ensures) in
+    let start = c .before .before .before .before .before .before .before .before .before in
+    let facts = rw (part-from, c .before .before .before .before .before .before .before .roots-start .ensures .0, c .before .roots .ensures .0) at (c .count-facts .ensures) in
     let rules = rw (c .before .before .before .before .atoms .ensures .0, c .before .before .before .before .before .before .nodes .ensures .0, part-from) at (c .before .before .before .count-rules .ensures) in
     rw (rules, facts) (sym (ruleTotal-parts (now (start .args .theory)) (start .pre .0) (now (start .args .terms)) (start .pre .1)))
 
 add-result : tie.Need-add-result
-add-result c = omega (arith, total c, ruleTotal-le _ (c .before .before .before .before .before .before .before .before .pre .0) _ (c .before .before .before .before .before .before .before .before .pre .1))
+add-result c = omega (arith, total c, ruleTotal-le _ (c .before .before .before .before .before .before .before .before .before .pre .0) _ (c .before .before .before .before .before .before .before .before .before .pre .1))
 
 returns : tie.Need-returns
-returns c = (total c, rw (total c) (ruleTotal-le _ (c .before .before .before .before .before .before .before .before .pre .0) _ (c .before .before .before .before .before .before .before .before .pre .1)))
+returns c = (total c, rw (total c) (ruleTotal-le _ (c .before .before .before .before .before .before .before .before .before .pre .0) _ (c .before .before .before .before .before .before .before .before .before .pre .1)))
 
 pub count-spec : {M : Type 1} → statement M
 count-spec =
     tie.close
     (tie.spec
+    roots-start-requires
     nodes-requires
-    mul-start
-    add-start
     sub-count-rules
     part-count-rules-start
     part-count-rules-end
