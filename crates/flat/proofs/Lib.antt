@@ -1,3 +1,4 @@
+pub mod Sizes
 pub mod Simplify
 pub mod OneNode
 pub mod Rules

@@ -1,8 +1,9 @@
 -- The flat program of a book.
 use mathlib.Core.Bool.{Bool, true, false, _||_, cond}
 use mathlib.Core.List.{List, [], _∷_, _++_, map}
-use Prim.Native.Nat.{ℕ, suc, _+_}
+use Prim.Native.Nat.{ℕ, suc, _+_, _*_, _-_}
 use lib.ListN.{getD}
+use Rattle.refusal.specs.Limits.{mostAtoms, mostNodes}
 use Rattle.theory.specs.Book.{Kind, falseKind, trueKind, atomKind, notKind, andKind, orKind, impliesKind, Node, Book}
 use Rattle.program.specs.Rule.{RuleOf, Rule}
 use Rattle.program.specs.Program.{Program}
@@ -104,3 +105,7 @@ labelTotal (n ∷ ns) = labelCount (n .kind) + labelTotal ns
 -- The flat program: labels are numbered from A upward in node order, and B counts all atoms.
 abbrev pub flat : Book → Program
 flat b = record { atoms = b .atoms; size = b .atoms + labelTotal (b .nodes); rules = rulesFrom (b .roots) [] (b .atoms) (b .nodes) }
+
+-- The most that B is within the limits of A and N, 1,024 + 2 * 1,023: node 0 has no earlier node and so takes no label, each other node takes at most two.
+abbrev pub largestB : ℕ
+largestB = mostAtoms + 2 * (mostNodes - 1)

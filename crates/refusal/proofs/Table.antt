@@ -112,6 +112,12 @@ none-refused rs x e h = cases (none rs) (λ n. absurd (h (ap (λ (b : Answer). b
 pub answer-both : (rs qs : List Row) (x : ℕ) → none rs ≡ true → none qs ≡ true → answer (rs ++ qs) x ≡ accepted x
 answer-both rs qs x n m = answer-past rs qs x n ∙ answer-none qs x m
 
+-- a row that does not apply where no row before it does decides nothing: without it the answer is the same, and so is whether a row applies
+pub idle-row : (before : List Row) (r : Row) (after : List Row) (x : ℕ) → (none before ≡ true → r .applies ≡ false)
+    → (answer (before ++ r ∷ after) x ≡ answer (before ++ after) x) × (none (before ++ r ∷ after) ≡ none (before ++ after))
+idle-row [] r after x h = rw (h refl) (refl, refl)
+idle-row (b ∷ before) r after x h = cases (b .applies) (λ t. rw t (refl, refl)) (λ t. rw t (idle-row before r after x (λ n. h (rw t n))))
+
 -- where rows with numbers of their own give the number 0, none of them applies
 pub none-accepted : (rs : List Row) (x : ℕ) → numbered rs ≡ true → {a : Answer} → a ≡ answer rs x → a .number ≡ 0 → none rs ≡ true
 none-accepted [] x h e z = refl
@@ -130,7 +136,7 @@ answer-yes rs b h e =
     is-yes false e = cc
 
 -- a number that no row has is not given
-answer-unused : (n : ℕ) (rs : List Row) (x : ℕ) → unused n rs ≡ true → (0 ≡ n → ⊥) → answer rs x .number ≡ n → ⊥
+pub answer-unused : (n : ℕ) (rs : List Row) (x : ℕ) → unused n rs ≡ true → (0 ≡ n → ⊥) → answer rs x .number ≡ n → ⊥
 answer-unused n [] x h z e = z e
 answer-unused n (r ∷ rs) x h z e =
     let u = unused-cons n r rs h in

@@ -1,18 +1,21 @@
 -- What is promised, in document 01's order. Each statement uses only definitions of specs/, and each proof cites the law behind it.
 use mathlib.Core.Path.{_≡_, refl, sym, _∙_}
 use mathlib.Core.Logic.{_↔_}
-use mathlib.Core.Bool.{Bool, true, not, cond}
-use mathlib.Core.List.{List, _++_, map, List·Memᴰ}
+use mathlib.Core.Bool.{Bool, true, false, not, cond}
+use mathlib.Core.List.{List, [], _∷_, _++_, map, List·Memᴰ}
 use Prim.Native.Nat.{ℕ, suc, min, max, _≤_, _<_}
+use native.Mathlib.Omega.{arith}
 use lib.Dec.{ltb, leb, eqb}
 use lib.ListN.{length, getD, take, drop}
+use borrow.Author.Tests.{le-ltb}
 use Rattle.refusal.specs.declared.Answer.{Answer}
-use Rattle.refusal.specs.Table.{accepted, yes, none, Exact}
+use Rattle.refusal.specs.Limits.{mostAtoms, mostNodes, mostB}
+use Rattle.refusal.specs.Table.{Row, accepted, yes, answer, none, Exact}
 use Rattle.refusal.specs.First.{FirstAt}
-use Rattle.refusal.specs.Rows.{wrong, row10, argumentRows, readingRows}
+use Rattle.refusal.specs.Rows.{wrong, row8, row10, row14, argumentRows, readingRows}
 use Rattle.refusal.proofs.Table.{answer-none, answer-exact, none-split}
 use Rattle.wire.specs.Wire.{Bytes}
-use Rattle.wire.specs.Outcome.{Outcome}
+use Rattle.wire.specs.Outcome.{Outcome, outcome, written}
 use Rattle.wire.proofs.Outcome
 use Rattle.refusal.proofs.First.{firstSuch-first}
 use Rattle.logic.specs.declared.Value.{Value}
@@ -43,13 +46,15 @@ use Rattle.program.proofs.Rules
 use Rattle.program.proofs.Reading as ReadingBack
 use Rattle.program.proofs.Writing
 use Rattle.flat.specs.Table.{labelCount}
-use Rattle.flat.specs.Flat.{flat}
+use Rattle.flat.specs.Flat.{flat, largestB}
 use Rattle.flat.specs.Extension.{extend as extension, Extends, firstLabel}
 use Rattle.flat.specs.OneToOne.{OneToOne}
+use Rattle.flat.proofs.Sizes
 use Rattle.flat.proofs.Extensions
 use Rattle.flat.proofs.Demand3
 use Rattle.flat.proofs.BenchCases as programs
 use Rattle.translation.specs.Outcome.{ruleTotal, translateRows, extendRows}
+use Rattle.translation.proofs.Writable
 use Rattle.translation.proofs.Bytes
 use Rattle.translation.proofs.Labels
 use Rattle.stable.specs.Subset.{setOf}
@@ -157,6 +162,35 @@ row10-first candidate r = firstSuch-first 10 (λ i. wrong candidate (getD r i 0)
 -- An accepted image is a well-formed book.
 accepted-book : (t : List ℕ) → none (theoryRows t) ≡ true → WellFormed (bookOf t)
 accepted-book = Accepted.accepted-wellFormed
+
+-- B of a book within the limits is at most 1,024 + 2 * 1,023, which one such book reaches; so B of an accepted image is within the program image's limit.
+
+size-bound : (b : Book) → WellFormed b → b .atoms ≤ mostAtoms → length (b .nodes) ≤ mostNodes → flat b .size ≤ largestB
+size-bound = Sizes.size-bound
+
+size-reached : (b : Book) × WellFormed b × (b .atoms ≡ mostAtoms) × (length (b .nodes) ≡ mostNodes) × (flat b .size ≡ largestB)
+size-reached = Sizes.size-reached
+
+accepted-size : (t : List ℕ) → none (theoryRows t) ≡ true → (flat (bookOf t) .size ≤ largestB) × (flat (bookOf t) .size ≤ mostB)
+accepted-size t ok = let h = Writable.accepted-size t ok in (h, omega arith)
+
+-- Row 14 never applies behind rows 1-7, and without it every outcome is the same.
+
+row14-idle : (t : List ℕ) → none (theoryRows t) ≡ true → row14 (flat (bookOf t) .size) .applies ≡ false
+row14-idle t ok = le-ltb mostB (flat (bookOf t) .size) (accepted-size t ok .1)
+
+translate-without-14 : (t o : List ℕ) → let rows = theoryRows t ++ row8 (imageLength (ruleTotal t)) (length o) ∷ [] in
+    translate t o ≡ outcome (answer rows (ruleTotal t)) (written rows (imageOf (flat (bookOf t))) o)
+unfolding translateRows
+translate-without-14 t o =
+    Outcome.outcome-idle (theoryRows t) (row14 (flat (bookOf t) .size)) (row8 (imageLength (ruleTotal t)) (length o) ∷ []) (ruleTotal t) (imageOf (flat (bookOf t))) o (row14-idle t)
+
+extend-without-14 : (t r o : List ℕ) → let rows = theoryRows t ++ (readingRows (atomCount t) r ++ row8 (flat (bookOf t) .size) (length o) ∷ []) in
+    extend t r o ≡ outcome (answer rows (flat (bookOf t) .size)) (written rows (map number (extension (bookOf t) (readingOf r))) o)
+unfolding extendRows
+extend-without-14 t r o =
+    Outcome.outcome-idle (theoryRows t) (row14 (flat (bookOf t) .size)) (readingRows (atomCount t) r ++ row8 (flat (bookOf t) .size) (length o) ∷ [])
+    (flat (bookOf t) .size) (map number (extension (bookOf t) (readingOf r))) o (row14-idle t)
 
 -- Demand 2: the four operations by number, truth is here-and-there's, answer sets are the equilibrium models.
 

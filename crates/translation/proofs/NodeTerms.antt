@@ -17,6 +17,7 @@ use Rattle.theory.specs.Book.{Kind, falseKind, trueKind, atomKind, notKind, and
 use Rattle.theory.specs.Image.{nodeIn}
 use Rattle.flat.specs.Table.{Slot, x, y, L, M, rows, labelCount}
 use Rattle.flat.specs.Flat.{Term, constant, name, fill, instances, termAt, nodeRules, termOf, term}
+use Rattle.flat.proofs.Sizes.{labelCount-le}
 use Rattle.table.specs.Shapes.{kinds, labelsIn}
 use Rattle.table.specs.OneRule.{falseTerm, code, decode, filled}
 use Rattle.table.proofs.Rows.{labels-count, labels-few}
@@ -34,16 +35,6 @@ limits-small A k notKind h l = omega arith
 limits-small A k andKind h l = omega arith
 limits-small A k orKind h l = omega arith
 limits-small A k impliesKind h l = omega arith
-
--- A kind takes at most two labels.
-labelCount-le : (kind : Kind) → labelCount kind ≤ 2
-labelCount-le falseKind = omega arith
-labelCount-le trueKind = omega arith
-labelCount-le atomKind = omega arith
-labelCount-le notKind = omega arith
-labelCount-le andKind = omega arith
-labelCount-le orKind = omega arith
-labelCount-le impliesKind = omega arith
 
 -- A kind has no rules and no labels, or its operands are earlier nodes.
 pub operands : (A k : ℕ) (kind : Kind) (left right : ℕ) → left < leftLimit A k kind → right < rightLimit k kind → ((rows kind ≡ []) × (labelCount kind ≡ 0)) ⊎ ((left < k) × (right < k))

@@ -17,14 +17,17 @@ use Rattle.logic.proofs.Bools.{&&-split, &&-join}
 use Rattle.theory.specs.Book.{Kind, falseKind, trueKind, atomKind, notKind, andKind, orKind, impliesKind}
 use Rattle.theory.specs.Image.{atomCount, nodeCount, rootCount, nodeSection, rootSection, nodeIn, rootIn, bookOf}
 use Rattle.theory.specs.Rows.{theoryRows}
+use Rattle.theory.proofs.Accepted.{accepted, accepted-wellFormed}
 use Rattle.program.specs.Rule.{RuleOf, Rule}
 use Rattle.program.specs.Image.{literals, programOf, imageOf}
 use Rattle.program.specs.Rows.{outside, programRows}
 use Rattle.wire.specs.Wire.{allBelow}
+use Rattle.wire.proofs.Sequence.{length-upTo}
 use Rattle.program.specs.Writable.{ruleWritable, rulesWritable, writable}
 use Rattle.program.proofs.Reading.{imageOf-accepted, programOf-imageOf}
 use Rattle.flat.specs.Table.{Slot, x, y, L, M, rows, labelCount}
-use Rattle.flat.specs.Flat.{Term, constant, name, names, removes, reduce, simplify, fill, fact, mapRule, instances, termAt, flat}
+use Rattle.flat.specs.Flat.{Term, constant, name, names, removes, reduce, simplify, fill, fact, mapRule, instances, termAt, flat, largestB}
+use Rattle.flat.proofs.Sizes.{size-bound}
 use Rattle.table.specs.OneRule.{code}
 use Rattle.table.proofs.OneRule.{Below, length-names}
 use Rattle.translation.specs.Outcome.{sizeOf, ruleTotal}
@@ -148,12 +151,12 @@ module _ (t : List ℕ) (ok : none (theoryRows t) ≡ true) where
   numbered : Numbered t (map code terms)
   numbered = take-all (nodeCount t) (map code terms) (rw (length-map, length-termsTo) (omega arith))
 
-  -- B is at least A and within its limit, so row 14 never applies; K is within its limit.
-  pub size-bounds : (atomCount t ≤ sizeOf t) × (sizeOf t ≤ mostB)
-  size-bounds =
-      let s = nodeSection t in
-      let nodes = nodes-accepted t ok in
-      rw (flat-size t) (omega (arith, next-le (atomCount t) s (nodeCount t) nodes (nodeCount t), nodes .few, nodes .few-atoms))
+  -- B is at most 1,024 + 2 * 1,023, as for every book within the limits; K is within its limit.
+  pub accepted-size : sizeOf t ≤ largestB
+  unfolding bookOf
+  accepted-size =
+      let header = accepted t ok .header in
+      size-bound (bookOf t) (accepted-wellFormed t ok) (header .few-atoms) (rw (length-upTo (nodeIn (nodeSection t)) (nodeCount t)) (header .few-nodes))
 
   pub rules-bound : ruleTotal t ≤ mostRules
   rules-bound = ruleTotal-le t ok (map code terms) numbered
@@ -171,7 +174,7 @@ module _ (t : List ℕ) (ok : none (theoryRows t) ≡ true) where
   unfolding bookOf
   within =
       let few = nodes-accepted t ok .few-atoms in
-      rw (le-ltb mostAtoms (atomCount t) few, le-ltb (sizeOf t) (atomCount t) (size-bounds .0), le-ltb mostB (sizeOf t) (size-bounds .1), le-ltb mostRules (ruleTotal t) rules-bound)
+      rw (le-ltb mostAtoms (atomCount t) few, le-ltb (sizeOf t) (atomCount t) (omega arith), le-ltb mostB (sizeOf t) (omega (arith, accepted-size)), le-ltb mostRules (ruleTotal t) rules-bound)
 
   pub flat-writable : writable (flat (bookOf t)) ≡ true
   flat-writable = rw within rules-writable

@@ -1,12 +1,12 @@
 -- Laws of the outcome of a call that writes: what its first rows refuse is refused and nothing is written, past them the later rows decide. From the laws of an answer.
 use mathlib.Core.Path.{_≡_, refl, sym, ap, ap₂, _∙_}
-use mathlib.Core.Bool.{Bool, true, cond}
-use mathlib.Core.List.{List, _++_}
+use mathlib.Core.Bool.{Bool, true, false, cond}
+use mathlib.Core.List.{List, _∷_, _++_}
 use Prim.Native.Nat.{ℕ}
 use lib.ListN.{length, take, drop}
 use Rattle.refusal.specs.declared.Answer.{Answer}
 use Rattle.refusal.specs.Table.{Row, answer, none}
-use Rattle.refusal.proofs.Table.{answer-past, answer-none, answer-refused, none-past, none-refused}
+use Rattle.refusal.proofs.Table.{answer-past, answer-none, answer-refused, none-past, none-refused, idle-row}
 use Rattle.wire.specs.Wire.{over}
 use Rattle.wire.specs.Outcome.{Outcome, outcome, written}
 use Rattle.wire.proofs.Laws.{take-over, drop-over}
@@ -39,3 +39,8 @@ module _ (rs qs : List Row) (bytes out : List ℕ) (y : ℕ) where
       → outcome a left ≡ outcome (answer (rs ++ qs) y) (written (rs ++ qs) bytes out)
   outcome-past n e f =
       ap₂ outcome (e ∙ sym (answer-past rs qs y n)) (f ∙ ap (λ (b : Bool). cond b (over bytes out) out) (sym (none-past rs qs n)))
+
+-- without a row that does not apply where no row before it does, the outcome is the same
+pub outcome-idle : (before : List Row) (r : Row) (after : List Row) (x : ℕ) (bytes out : List ℕ) → (none before ≡ true → r .applies ≡ false)
+    → outcome (answer (before ++ r ∷ after) x) (written (before ++ r ∷ after) bytes out) ≡ outcome (answer (before ++ after) x) (written (before ++ after) bytes out)
+outcome-idle before r after x bytes out h = let same = idle-row before r after x h in rw (same .0, same .1)

@@ -8,14 +8,13 @@ use denote.Ref.{now}
 use Rattle.wire.proofs.Laws.{Written, part-from, turn-room, turn}
 use Rattle.logic.specs.Value.{number}
 use Rattle.logic.specs.Formula.{readingOf}
-use Rattle.theory.specs.Image.{nodeCount, nodeSection}
+use Rattle.theory.specs.Image.{nodeCount, nodeSection, bookOf}
 use Rattle.theory.specs.NodeValues.{valuesTo}
 use Rattle.theory.proofs.Accepted.{accepted}
 use Rattle.translation.specs.Turns.{labelsTo}
 use Rattle.translation.proofs.NodeTerms.{kind-known, operands-small}
 use Rattle.translation.proofs.Sections.{nodes-accepted}
 use Rattle.translation.proofs.Labels.{reading-long, scratch-values, extension-bytes, length-extension}
-use Rattle.translation.proofs.Writable.{size-bounds}
 use Rattle.translation.proofs.Writing.{written-first}
 use borrow.Author.Needs.{needs}
 use Rattle.translation.proofs.write_extension.Statement.{statement}
@@ -31,17 +30,19 @@ values-requires c κs =
     (start .pre .0, (reading-long t (now (start .args .reading)) (start .pre .0) (start .pre .1), nodes-accepted t (start .pre .0) .few))
 
 put-requires : tie.Need-put-requires
+unfolding bookOf
 put-requires c κs =
     let start = c .before .before .before .before .before .before .before in
     let t = now (start .args .theory) in
-    omega (arith, reading-long t (now (start .args .reading)) (start .pre .0) (start .pre .1), size-bounds t (start .pre .0))
+    omega (arith, reading-long t (now (start .args .reading)) (start .pre .0) (start .pre .1))
 
 -- the reading is written, the scratch has the nodes' values, and the labels fit behind the reading
 wrote : (c : tie.After-put) → let start = c .before .before .before .before .before .before .before .before in Written (now (start .args .reading)) (now (start .args .out)) (c .put .last .0) (c .put .result)
+unfolding bookOf
 wrote c =
     let start = c .before .before .before .before .before .before .before .before in
     let t = now (start .args .theory) in
-    written-first _ (now (start .args .out)) _ _ (omega (arith, reading-long t (now (start .args .reading)) (start .pre .0) (start .pre .1), size-bounds t (start .pre .0))) (c .put .ensures .0) (c .put .ensures .1)
+    written-first _ (now (start .args .out)) _ _ (omega (arith, reading-long t (now (start .args .reading)) (start .pre .0) (start .pre .1))) (c .put .ensures .0) (c .put .ensures .1)
 
 valued : (c : tie.After-put) → let start = c .before .before .before .before .before .before .before .before in let t = now (start .args .theory) in
     take (nodeCount t) (c .before .before .before .values .last .1 .1 .0) ≡ map number (valuesTo (readingOf (now (start .args .reading))) (nodeSection t) (nodeCount t))
