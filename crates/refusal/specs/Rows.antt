@@ -4,7 +4,6 @@ use mathlib.Core.List.{List, [], _∷_}
 use Prim.Native.Nat.{ℕ, suc}
 use lib.Dec.{eqb, ltb}
 use lib.ListN.{getD, length}
-use Rattle.refusal.specs.Limits.{mostB}
 use Rattle.refusal.specs.Table.{Row}
 use Rattle.refusal.specs.First.{firstSuch}
 
@@ -32,10 +31,6 @@ row10 candidate bytes = firstSuch 10 (λ i. wrong candidate (getD bytes i 0)) (l
 -- row 11: a number of atoms is over its limit; its place is that number
 abbrev pub row11 : ℕ → ℕ → Row
 row11 atoms limit = record { number = 11; applies = ltb limit atoms; place = atoms }
-
--- row 14: B would exceed its limit; its place is B
-abbrev pub row14 : ℕ → Row
-row14 B = record { number = 14; applies = ltb mostB B; place = B }
 
 -- rows 9 and 10, for a candidate or not
 unfoldable pub argumentRows : Bool → ℕ → List ℕ → List Row

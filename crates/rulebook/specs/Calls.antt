@@ -62,7 +62,7 @@ evaluateProgram p r = answer (evaluateProgramRows p r) (yes (satisfiesProgram (r
 abbrev pub EvaluatesProgram : (program reading : List ℕ) → Answer → Type 0
 EvaluatesProgram p r a = a ≡ evaluateProgram p r
 
--- Translating: rows 1-7, 14, 8; the result is K, and the bytes are the flat program's image.
+-- Translating: rows 1-7, 8; the result is K, and the bytes are the flat program's image.
 abbrev pub translateCallRows : (theory out : List ℕ) → List Row
 translateCallRows t out = theoryRows t ++ translateRows t (length out)
 
@@ -73,7 +73,7 @@ translate t out = outcome (answer (translateCallRows t out) (ruleTotal t)) (writ
 abbrev pub Translates : (theory out : List ℕ) → Answer → (left : List ℕ) → Type 0
 Translates t out a left = outcome a left ≡ translate t out
 
--- Extending: rows 1-7, 14, 9, 10, 8; the result is B, and the bytes are the reading's and then each label's value.
+-- Extending: rows 1-7, 9, 10, 8; the result is B, and the bytes are the reading's and then each label's value.
 abbrev pub extendCallRows : (theory reading out : List ℕ) → List Row
 extendCallRows t r out = theoryRows t ++ extendRows t r (length out)
 

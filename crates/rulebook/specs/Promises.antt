@@ -1,19 +1,18 @@
 -- What is promised, in document 01's order. Each statement uses only definitions of specs/, and each proof cites the law behind it.
 use mathlib.Core.Path.{_≡_, refl, sym, _∙_}
 use mathlib.Core.Logic.{_↔_}
-use mathlib.Core.Bool.{Bool, true, false, not, cond}
-use mathlib.Core.List.{List, [], _∷_, _++_, map, List·Memᴰ}
+use mathlib.Core.Bool.{Bool, true, not, cond}
+use mathlib.Core.List.{List, _∷_, _++_, map, List·Memᴰ}
 use Prim.Native.Nat.{ℕ, suc, min, max, _≤_, _<_}
 use native.Mathlib.Omega.{arith}
 use lib.Dec.{ltb, leb, eqb}
 use lib.ListN.{length, getD, take, drop}
-use borrow.Author.Tests.{le-ltb}
 use Rattle.refusal.specs.declared.Answer.{Answer}
 use Rattle.refusal.specs.Limits.{mostAtoms, mostNodes, mostB}
-use Rattle.refusal.specs.Table.{Row, accepted, yes, answer, none, Exact}
+use Rattle.refusal.specs.Table.{Row, accepted, yes, answer, none, unused, Exact}
 use Rattle.refusal.specs.First.{FirstAt}
-use Rattle.refusal.specs.Rows.{wrong, row8, row10, row14, argumentRows, readingRows}
-use Rattle.refusal.proofs.Table.{answer-none, answer-exact, none-split}
+use Rattle.refusal.specs.Rows.{wrong, row10, argumentRows, readingRows}
+use Rattle.refusal.proofs.Table.{answer-none, answer-exact, answer-unused, none-split}
 use Rattle.wire.specs.Wire.{Bytes}
 use Rattle.wire.specs.Outcome.{Outcome, outcome, written}
 use Rattle.wire.proofs.Outcome
@@ -174,23 +173,34 @@ size-reached = Sizes.size-reached
 accepted-size : (t : List ℕ) → none (theoryRows t) ≡ true → (flat (bookOf t) .size ≤ largestB) × (flat (bookOf t) .size ≤ mostB)
 accepted-size t ok = let h = Writable.accepted-size t ok in (h, omega arith)
 
--- Row 14 never applies behind rows 1-7, and without it every outcome is the same.
+-- Refusal 14, for a B over that limit, is gone: no call's answer has the number, and a row that refuses only such a B, behind those of the theory, changes no outcome.
 
-row14-idle : (t : List ℕ) → none (theoryRows t) ≡ true → row14 (flat (bookOf t) .size) .applies ≡ false
-row14-idle t ok = le-ltb mostB (flat (bookOf t) .size) (accepted-size t ok .1)
+never-14 : (t p r c o : List ℕ)
+    → (checkTheory t .number ≡ 14 → ⊥) × (evaluateTheory t r .number ≡ 14 → ⊥) × (translate t o .answer .number ≡ 14 → ⊥)
+    × (extend t r o .answer .number ≡ 14 → ⊥) × (testTheory t c .number ≡ 14 → ⊥) × (listSets t o .answer .number ≡ 14 → ⊥)
+    × (checkProgram p .number ≡ 14 → ⊥) × (evaluateProgram p r .number ≡ 14 → ⊥) × (testProgram p c .number ≡ 14 → ⊥)
+unfolding theoryRows headerRows programRows argumentRows translateRows extendRows setsRows
+never-14 t p r c o =
+    let never : (rows : List Row) (x : ℕ) → unused 14 rows ≡ true → answer rows x .number ≡ 14 → ⊥ = λ rows x h. answer-unused 14 rows x h (λ e. omega arith) in (
+      never (theoryRows t) _ refl,
+      never (evaluateTheoryRows t r) _ refl,
+      never (translateCallRows t o) _ refl,
+      never (extendCallRows t r o) _ refl,
+      never (testTheoryRows t c) _ refl,
+      never (listSetsRows t o) _ refl,
+      never (programRows p) _ refl,
+      never (evaluateProgramRows p r) _ refl,
+      never (testProgramRows p c) _ refl,
+    )
 
-translate-without-14 : (t o : List ℕ) → let rows = theoryRows t ++ row8 (imageLength (ruleTotal t)) (length o) ∷ [] in
-    translate t o ≡ outcome (answer rows (ruleTotal t)) (written rows (imageOf (flat (bookOf t))) o)
-unfolding translateRows
-translate-without-14 t o =
-    Outcome.outcome-idle (theoryRows t) (row14 (flat (bookOf t) .size)) (row8 (imageLength (ruleTotal t)) (length o) ∷ []) (ruleTotal t) (imageOf (flat (bookOf t))) o (row14-idle t)
+module _ (t : List ℕ) (over : Row) (only : over .applies ≡ true → mostB < flat (bookOf t) .size) where
+  translate-without : (o : List ℕ) → let rows = theoryRows t ++ over ∷ translateRows t (length o) in
+      outcome (answer rows (ruleTotal t)) (written rows (imageOf (flat (bookOf t))) o) ≡ translate t o
+  translate-without o = Outcome.outcome-idle (theoryRows t) over (translateRows t (length o)) (ruleTotal t) (imageOf (flat (bookOf t))) o (λ ok. Writable.over-idle t ok over only)
 
-extend-without-14 : (t r o : List ℕ) → let rows = theoryRows t ++ (readingRows (atomCount t) r ++ row8 (flat (bookOf t) .size) (length o) ∷ []) in
-    extend t r o ≡ outcome (answer rows (flat (bookOf t) .size)) (written rows (map number (extension (bookOf t) (readingOf r))) o)
-unfolding extendRows
-extend-without-14 t r o =
-    Outcome.outcome-idle (theoryRows t) (row14 (flat (bookOf t) .size)) (readingRows (atomCount t) r ++ row8 (flat (bookOf t) .size) (length o) ∷ [])
-    (flat (bookOf t) .size) (map number (extension (bookOf t) (readingOf r))) o (row14-idle t)
+  extend-without : (r o : List ℕ) → let rows = theoryRows t ++ over ∷ extendRows t r (length o) in
+      outcome (answer rows (flat (bookOf t) .size)) (written rows (map number (extension (bookOf t) (readingOf r))) o) ≡ extend t r o
+  extend-without r o = Outcome.outcome-idle (theoryRows t) over (extendRows t r (length o)) (flat (bookOf t) .size) (map number (extension (bookOf t) (readingOf r))) o (λ ok. Writable.over-idle t ok over only)
 
 -- Demand 2: the four operations by number, truth is here-and-there's, answer sets are the equilibrium models.
 

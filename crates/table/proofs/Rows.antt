@@ -10,6 +10,7 @@ use Rattle.logic.proofs.Finite.{all, all-at}
 use Rattle.wire.specs.Sequence.{upTo}
 use Rattle.theory.specs.Image.{kindOf}
 use Rattle.flat.specs.Table.{rows, labelCount}
+use Rattle.flat.proofs.Sizes.{labelCount-le}
 use Rattle.table.specs.Shapes.{shapes, firstRow, rowCount, labelsOf, shapeRule, kindShape, KindIn, Fillable}
 
 -- What holds at each of the numbers 0 to 6 holds at each number below 7.
@@ -45,7 +46,7 @@ rows-within k h = leb-true _ _ (all-at (λ k. leb (firstRow k + rowCount k) 14) 
 
 -- A kind has at most two labels.
 pub labels-few : (k : ℕ) → k < 7 → labelsOf k ≤ 2
-labels-few k h = leb-true _ _ (all-at (λ k. leb (labelsOf k) 2) 7 refl k h)
+labels-few k h = rw (labels-count k h) (labelCount-le (kindOf k))
 
 -- Row j of a kind as the code reads it.
 module _ (table index : List (List ℕ)) (kind : ℕ) (ok : KindIn table index kind) (j : ℕ) (h : j < getD (getD index kind []) 1 0) where

@@ -6,8 +6,8 @@ use Prim.Native.Nat.{ℕ}
 use lib.ListN.{length, getD, take, length-map, List·getD-map}
 use borrow.Author.Tests.{le-ltb, eq-eqb}
 use Rattle.refusal.specs.Table.{none, yes, answer, accepted}
-use Rattle.refusal.specs.Rows.{wrong, row8, row14, argumentRows, readingRows}
-use Rattle.refusal.proofs.Table.{answer-both, answer-yes, none-cons, none-split}
+use Rattle.refusal.specs.Rows.{wrong, row8, argumentRows, readingRows}
+use Rattle.refusal.proofs.Table.{answer-both, answer-yes, none-split}
 use Rattle.refusal.proofs.First.{firstSuch-none}
 use Rattle.refusal.proofs.Rows.{none-argumentRows}
 use Rattle.logic.specs.declared.Value.the-variants.{Neither}
@@ -47,9 +47,7 @@ reading-accepted I n e =
 -- An extension that is not refused has a reading that is not refused.
 pub extendRows-reading : (t r : List ℕ) (room : ℕ) → none (extendRows t r room) ≡ true → none (readingRows (atomCount t) r) ≡ true
 unfolding extendRows
-extendRows-reading t r room h =
-    let B : ℕ = flat (bookOf t) .size in
-    none-split (readingRows (atomCount t) r) (row8 B room ∷ []) (none-cons (row14 B) (readingRows (atomCount t) r ++ (row8 B room ∷ [])) h .1) .0
+extendRows-reading t r room h = none-split (readingRows (atomCount t) r) (row8 (flat (bookOf t) .size) room ∷ []) h .0
 
 -- A theory image that the check accepts, and the image of its program.
 module _ (t : List ℕ) (ok : none (theoryRows t) ≡ true) (p : List ℕ) (wrote : p ≡ imageOf (flat (bookOf t))) where

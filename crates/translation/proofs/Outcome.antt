@@ -5,7 +5,6 @@ use mathlib.Core.List.{List, [], _∷_, _++_, map}
 use Prim.Native.Nat.{ℕ, _≤_, _<_}
 use lib.ListN.{length}
 use borrow.Author.Tests.{lt-ltb, le-ltb}
-use Rattle.refusal.specs.Limits.{mostB}
 use Rattle.refusal.specs.Table.{Row, refused, accepted, answer, none}
 use Rattle.refusal.specs.Rows.{row8, readingRows}
 use Rattle.refusal.specs.declared.Answer.{Answer}
@@ -20,57 +19,43 @@ use Rattle.flat.specs.Extension.{extend}
 use Rattle.translation.specs.Outcome.{sizeOf, ruleTotal, translateRows, translated, extendRows, extended}
 
 module _ (t out : List ℕ) where
-  -- B is over its limit: row 14 refuses.
-  pub translate-over : mostB < sizeOf t → (answer (translateRows t (length out)) (ruleTotal t) ≡ refused 14 (sizeOf t)) × (translated t out ≡ out)
-  unfolding translateRows translated
-  translate-over h = rw (lt-ltb mostB (sizeOf t) h) (refl, refl)
-
   -- The room is too short: row 8 refuses.
-  pub translate-short : sizeOf t ≤ mostB → length out < imageLength (ruleTotal t)
+  pub translate-short : length out < imageLength (ruleTotal t)
       → (answer (translateRows t (length out)) (ruleTotal t) ≡ refused 8 (imageLength (ruleTotal t))) × (translated t out ≡ out)
   unfolding translateRows translated
-  translate-short h l = rw (le-ltb mostB (sizeOf t) h, lt-ltb (length out) (imageLength (ruleTotal t)) l) (refl, refl)
+  translate-short l = rw (lt-ltb (length out) (imageLength (ruleTotal t)) l) (refl, refl)
 
-  -- Neither row applies.
-  pub translate-all : sizeOf t ≤ mostB → imageLength (ruleTotal t) ≤ length out
+  -- No row applies.
+  pub translate-all : imageLength (ruleTotal t) ≤ length out
       → (answer (translateRows t (length out)) (ruleTotal t) ≡ accepted (ruleTotal t)) × (translated t out ≡ over (imageOf (flat (bookOf t))) out)
   unfolding translateRows translated
-  translate-all h l = rw (le-ltb mostB (sizeOf t) h, le-ltb (length out) (imageLength (ruleTotal t)) l) (refl, refl)
+  translate-all l = rw (le-ltb (length out) (imageLength (ruleTotal t)) l) (refl, refl)
 
 module _ (t reading out : List ℕ) where
   abbrev rows : List Row
   rows = extendRows t reading (length out)
 
-  -- B is over its limit: row 14 refuses.
-  pub extend-over : mostB < sizeOf t → (answer rows (sizeOf t) ≡ refused 14 (sizeOf t)) × (extended t reading out ≡ out)
-  unfolding extendRows extended
-  extend-over h = rw (lt-ltb mostB (sizeOf t) h) (refl, refl)
+  abbrev rs : List Row
+  rs = readingRows (atomCount t) reading
+
+  abbrev qs : List Row
+  qs = row8 (sizeOf t) (length out) ∷ []
 
   -- The reading is refused by row 9 or 10.
-  pub extend-reading : sizeOf t ≤ mostB → {a : Answer} → a ≡ answer (readingRows (atomCount t) reading) 0 → (a .number ≡ 0 → ⊥)
-      → (a ≡ answer rows (sizeOf t)) × (extended t reading out ≡ out)
+  pub extend-reading : {a : Answer} → a ≡ answer rs 0 → (a .number ≡ 0 → ⊥) → (a ≡ answer rows (sizeOf t)) × (extended t reading out ≡ out)
   unfolding extendRows extended
-  extend-reading h {a} e refuses =
-      let rs = readingRows (atomCount t) reading in
-      let qs : List Row = row8 (sizeOf t) (length out) ∷ [] in
+  extend-reading {a} e refuses =
       let all : a ≡ answer (rs ++ qs) (sizeOf t) = answer-refused rs qs 0 (sizeOf t) e refuses in
       let some : none (rs ++ qs) ≡ false = none-refused (rs ++ qs) (sizeOf t) all refuses in
-      rw (le-ltb mostB (sizeOf t) h) (all, rw some)
+      (all, rw some)
 
   -- The room is too short: row 8 refuses.
-  pub extend-short : sizeOf t ≤ mostB → none (readingRows (atomCount t) reading) ≡ true → length out < sizeOf t
-      → (answer rows (sizeOf t) ≡ refused 8 (sizeOf t)) × (extended t reading out ≡ out)
+  pub extend-short : none rs ≡ true → length out < sizeOf t → (answer rows (sizeOf t) ≡ refused 8 (sizeOf t)) × (extended t reading out ≡ out)
   unfolding extendRows extended
-  extend-short h fine l =
-      let rs = readingRows (atomCount t) reading in
-      let qs : List Row = row8 (sizeOf t) (length out) ∷ [] in
-      rw (le-ltb mostB (sizeOf t) h, answer-past rs qs (sizeOf t) fine, none-past rs qs fine, lt-ltb (length out) (sizeOf t) l) (refl, refl)
+  extend-short fine l = rw (answer-past rs qs (sizeOf t) fine, none-past rs qs fine, lt-ltb (length out) (sizeOf t) l) (refl, refl)
 
   -- No row applies.
-  pub extend-all : sizeOf t ≤ mostB → none (readingRows (atomCount t) reading) ≡ true → sizeOf t ≤ length out
+  pub extend-all : none rs ≡ true → sizeOf t ≤ length out
       → (answer rows (sizeOf t) ≡ accepted (sizeOf t)) × (extended t reading out ≡ over (map number (extend (bookOf t) (readingOf reading))) out)
   unfolding extendRows extended
-  extend-all h fine l =
-      let rs = readingRows (atomCount t) reading in
-      let qs : List Row = row8 (sizeOf t) (length out) ∷ [] in
-      rw (le-ltb mostB (sizeOf t) h, answer-past rs qs (sizeOf t) fine, none-past rs qs fine, le-ltb (length out) (sizeOf t) l) (refl, refl)
+  extend-all fine l = rw (answer-past rs qs (sizeOf t) fine, none-past rs qs fine, le-ltb (length out) (sizeOf t) l) (refl, refl)

@@ -11,7 +11,7 @@ use lib.ListN.{length, length-append, length-map}
 use lib.Seq.{take-all}
 use borrow.Author.Tests.{lt-ltb, le-ltb, le-leb, leb-true}
 use Rattle.refusal.specs.Limits.{mostAtoms, mostB, mostRules}
-use Rattle.refusal.specs.Table.{none}
+use Rattle.refusal.specs.Table.{Row, none}
 use Rattle.refusal.proofs.Table.{cases}
 use Rattle.logic.proofs.Bools.{&&-split, &&-join}
 use Rattle.theory.specs.Book.{Kind, falseKind, trueKind, atomKind, notKind, andKind, orKind, impliesKind}
@@ -33,7 +33,7 @@ use Rattle.table.proofs.OneRule.{Below, length-names}
 use Rattle.translation.specs.Outcome.{sizeOf, ruleTotal}
 use Rattle.translation.specs.Turns.{Nodes, nextTo, termsTo, rulesTo, factsTo, Numbered}
 use Rattle.translation.proofs.Turns.{nextTo-more, rulesTo-none, rulesTo-more, factsTo-none, factsTo-more, length-termsTo, flat-size, flat-rules}
-use Rattle.translation.proofs.NodeTerms.{below-le, next-le, terms-below}
+use Rattle.translation.proofs.NodeTerms.{below-le, terms-below}
 use Rattle.translation.proofs.Sections.{nodes-accepted, ruleTotal-le}
 
 -- ---- lists of atoms, and of rules
@@ -151,13 +151,18 @@ module _ (t : List ℕ) (ok : none (theoryRows t) ≡ true) where
   numbered : Numbered t (map code terms)
   numbered = take-all (nodeCount t) (map code terms) (rw (length-map, length-termsTo) (omega arith))
 
-  -- B is at most 1,024 + 2 * 1,023, as for every book within the limits; K is within its limit.
+  -- B is at most 1,024 + 2 * 1,023, as of every book within the limits.
   pub accepted-size : sizeOf t ≤ largestB
   unfolding bookOf
   accepted-size =
       let header = accepted t ok .header in
       size-bound (bookOf t) (accepted-wellFormed t ok) (header .few-atoms) (rw (length-upTo (nodeIn (nodeSection t)) (nodeCount t)) (header .few-nodes))
 
+  -- So a row that applies only where B is over the program's limit does not apply.
+  pub over-idle : (r : Row) → (r .applies ≡ true → mostB < sizeOf t) → r .applies ≡ false
+  over-idle r over = cases (r .applies) (λ a. absurd (omega (arith, accepted-size, over a))) (λ a. a)
+
+  -- K is within its limit.
   pub rules-bound : ruleTotal t ≤ mostRules
   rules-bound = ruleTotal-le t ok (map code terms) numbered
 

@@ -3,7 +3,7 @@ use mathlib.Core.List.{List, [], _∷_, _++_, map}
 use Prim.Native.Nat.{ℕ}
 use lib.ListN.{length}
 use Rattle.refusal.specs.Table.{Row}
-use Rattle.refusal.specs.Rows.{row8, row14, readingRows}
+use Rattle.refusal.specs.Rows.{row8, readingRows}
 use Rattle.wire.specs.Outcome.{written}
 use Rattle.logic.specs.Value.{number}
 use Rattle.logic.specs.Formula.{readingOf}
@@ -19,17 +19,17 @@ sizeOf t = flat (bookOf t) .size
 abbrev pub ruleTotal : List ℕ → ℕ
 ruleTotal t = length (flat (bookOf t) .rules)
 
--- The rows of a translation of a checked theory image, in the order tested; `room` is the output's length.
+-- The row of a translation of a checked theory image; `room` is the output's length.
 unfoldable pub translateRows : (t : List ℕ) → (room : ℕ) → List Row
-translateRows t room = row14 (sizeOf t) ∷ row8 (imageLength (ruleTotal t)) room ∷ []
+translateRows t room = row8 (imageLength (ruleTotal t)) room ∷ []
 
--- What the output holds then: the flat program's image over its start, or what it held where a row applies.
+-- What the output holds then: the flat program's image over its start, or what it held where that row applies.
 unfoldable pub translated : (t out : List ℕ) → List ℕ
 translated t out = written (translateRows t (length out)) (imageOf (flat (bookOf t))) out
 
 -- The rows of an extension of a reading, in the order tested.
 unfoldable pub extendRows : (t reading : List ℕ) → (room : ℕ) → List Row
-extendRows t reading room = row14 (sizeOf t) ∷ (readingRows (atomCount t) reading ++ (row8 (sizeOf t) room ∷ []))
+extendRows t reading room = readingRows (atomCount t) reading ++ (row8 (sizeOf t) room ∷ [])
 
 -- What the output holds then: the extension's bytes over its start, or what it held where a row applies.
 unfoldable pub extended : (t reading out : List ℕ) → List ℕ

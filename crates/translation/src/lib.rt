@@ -79,9 +79,10 @@ fn term_of(kind: usize, left: usize, next: usize) -> usize
     }
 }
 
-// Numbers the terms of the nodes, those of labels from A upward.
-fn number(nodes: &[u8], count: usize, atoms: usize, terms: &mut [u16])
+// Numbers the terms of the nodes, those of labels from A upward, and gives B.
+fn number(nodes: &[u8], count: usize, atoms: usize, terms: &mut [u16]) -> usize
     requires { ⌜ Nodes atoms (now nodes) count × (count ≤ length (now terms)) ⌝ }
+    ensures { λ r. ⌜ r ≡ nextTo atoms (now (nodes .entry)) count ⌝ }
     ensures { λ _. ⌜ NumberedTo atoms (now (nodes .entry)) count (now (terms .exit)) ⌝ }
 {
     let kinds = table::kinds();
@@ -93,6 +94,7 @@ fn number(nodes: &[u8], count: usize, atoms: usize, terms: &mut [u16])
         next += kinds[kind][2];
         k += 1;
     }
+    next
 }
 
 // The terms of x, y, L and M of node k, whose labels start at `next`.
@@ -311,7 +313,7 @@ fn write(
     wire::put(out, &header);
 }
 
-// The translation of a checked theory image into a program image: rows 14 and 8 first, and K rules where neither applies.
+// The translation of a checked theory image into a program image: row 8 first, and K rules where it does not apply.
 pub fn translate(theory: &[u8], out: &mut [u8]) -> Answer
     requires { ⌜ none (theoryRows (now theory)) ≡ true ⌝ }
     ensures { λ r. ⌜ r ≡ answer (translateRows (now (theory .entry)) (length (now (out .entry)))) (ruleTotal (now (theory .entry))) ⌝ }
@@ -319,12 +321,8 @@ pub fn translate(theory: &[u8], out: &mut [u8]) -> Answer
 {
     let atoms = theory::atoms(theory);
     let nodes = theory::nodes(theory);
-    let all = size(&theory[16..], nodes, atoms);
-    if refusal::MOST_B < all {
-        return refusal::refuse(14, all);
-    }
     let mut terms = [0u16; refusal::MOST_NODES];
-    number(&theory[16..], nodes, atoms, &mut terms);
+    let all = number(&theory[16..], nodes, atoms, &mut terms);
     let rules = count(theory, &terms);
     let needed = 16 + rules * 10;
     if out.len() < needed {
@@ -384,22 +382,18 @@ fn write_extension(theory: &[u8], reading: &[u8], out: &mut [u8])
     );
 }
 
-// The extension of a reading to the labels of a checked theory image: rows 14, 9, 10 and 8 first, and B bytes where none applies.
+// The extension of a reading to the labels of a checked theory image: rows 9, 10 and 8 first, and B bytes where none applies.
 pub fn extend(theory: &[u8], reading: &[u8], out: &mut [u8]) -> Answer
     requires { ⌜ none (theoryRows (now theory)) ≡ true ⌝ }
     ensures { λ r. ⌜ r ≡ answer (extendRows (now (theory .entry)) (now (reading .entry)) (length (now (out .entry)))) (sizeOf (now (theory .entry))) ⌝ }
     ensures { λ _. ⌜ now (out .exit) ≡ extended (now (theory .entry)) (now (reading .entry)) (now (out .entry)) ⌝ }
 {
     let atoms = theory::atoms(theory);
-    let nodes = theory::nodes(theory);
-    let all = size(&theory[16..], nodes, atoms);
-    if refusal::MOST_B < all {
-        return refusal::refuse(14, all);
-    }
     let answer = refusal::reading(reading, atoms);
     if answer.number != 0 {
         return answer;
     }
+    let all = size(&theory[16..], theory::nodes(theory), atoms);
     if out.len() < all {
         return refusal::refuse(8, all);
     }

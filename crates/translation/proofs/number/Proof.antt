@@ -1,4 +1,4 @@
--- `number` numbers the terms: before each turn the scratch begins with the numbers of the terms of the nodes passed. Assumes nothing.
+-- `number` numbers the terms: before each turn the scratch begins with the numbers of the terms of the nodes passed, and `next` is the label behind theirs. Assumes nothing.
 use mathlib.Core.Path.{_≡_, refl, sym, _∙_}
 use mathlib.Core.List.{map, map-append}
 use Prim.Native.Nat.{_-_, _≤_}
@@ -97,7 +97,9 @@ same-length : tie.Need-same-length Inv-loop μ-loop
 same-length c = search needs
 
 returns : tie.Need-returns Inv-loop μ-loop
-returns c = let e : c .before .loop .k ≡ c .before .before .before .before .before .args .count = omega arith in rw e at (c .before .loop .inv .0)
+returns c =
+    let e : c .before .loop .k ≡ c .before .before .before .before .before .args .count = omega arith in
+    (rw e at (c .before .loop .inv .1), rw e at (c .before .loop .inv .0))
 
 pub number-spec : {M : Type 1} → statement M
 number-spec =
