@@ -265,7 +265,7 @@ impl Broken {
     }
 }
 
-/// The rows of each call, in the order in which they are tested. Row 14 cannot be reached.
+/// The rows of each call, in the order in which they are tested.
 fn rows(call: Call) -> &'static [u32] {
     match call {
         Call::CheckTheory => &[1, 2, 3, 4, 5, 6, 7],
