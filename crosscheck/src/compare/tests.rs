@@ -1,6 +1,7 @@
 //! The comparison itself under test: it accepts the reference and finds each of these broken versions of it.
 
-use crate::calls::{Answer, Calls};
+use super::Comparer;
+use crate::calls::{Answer, Call, Calls};
 use crate::reference;
 use crate::suite::{Effort, Suite, PARTS};
 
@@ -150,4 +151,21 @@ fn a_fault_on_both_sides() {
     let broken = Calls { evaluate_program, ..reference::CALLS };
     let mut suite = Suite::new(&broken, &broken, 1);
     assert!(suite.labels(8).is_err());
+}
+
+/// Of all the numbers on which both sides may agree, only the rows of the call pass.
+#[test]
+fn a_number_that_is_no_row_of_the_call() {
+    /// Gives the number that is the image's first byte.
+    fn first(theory: &[u8]) -> Answer {
+        Answer { number: theory[0].into(), place: 0, result: 0 }
+    }
+    let broken =
+        Calls { translate: |theory, _| first(theory), extend: |theory, _, _| first(theory), ..reference::CALLS };
+    let mut comparer = Comparer::new(&broken, &broken);
+    let mut passed = |call: Call| -> Vec<u8> {
+        (0..=255).filter(|&number| comparer.call(call, &[number], &[], 0).is_ok()).collect()
+    };
+    assert_eq!(passed(Call::Translate), [0, 1, 2, 3, 4, 5, 6, 7, 8]);
+    assert_eq!(passed(Call::Extend), [0, 1, 2, 3, 4, 5, 6, 7, 8, 9, 10]);
 }

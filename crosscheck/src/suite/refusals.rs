@@ -104,7 +104,7 @@ impl Suite<'_> {
     /// For each call, every row that it has and every two of its rows broken at once: the earlier row must win.
     pub fn damaged(&mut self, times: usize) -> Checked<()> {
         for call in Call::ALL {
-            let rows = rows(call);
+            let rows = call.rows();
             for (index, &row) in rows.iter().enumerate() {
                 for &later in &rows[index..] {
                     for _ in 0..times {
@@ -262,21 +262,6 @@ impl Broken {
             self.note(9, damage::reading_length(random, &mut reading));
         }
         reading
-    }
-}
-
-/// The rows of each call, in the order in which they are tested.
-fn rows(call: Call) -> &'static [u32] {
-    match call {
-        Call::CheckTheory => &[1, 2, 3, 4, 5, 6, 7],
-        Call::EvaluateTheory => &[1, 2, 3, 4, 5, 6, 7, 9, 10],
-        Call::Translate => &[1, 2, 3, 4, 5, 6, 7, 8],
-        Call::Extend => &[1, 2, 3, 4, 5, 6, 7, 9, 10, 8],
-        Call::TestTheory => &[1, 2, 3, 4, 5, 6, 7, 9, 10, 11],
-        Call::ListSets => &[1, 2, 3, 4, 5, 6, 7, 11, 8],
-        Call::CheckProgram => &[21, 22, 23, 24, 25, 26],
-        Call::EvaluateProgram => &[21, 22, 23, 24, 25, 26, 9, 10],
-        Call::TestProgram => &[21, 22, 23, 24, 25, 26, 9, 10, 11],
     }
 }
 
