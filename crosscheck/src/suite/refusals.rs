@@ -255,11 +255,15 @@ impl Broken {
             reading = (0..atoms).map(|atom| if atom < truths { 2 } else { 0 }).collect();
             self.note(11, truths);
         }
-        if self.has(10) {
-            self.damage(10, || damage::reading_byte(random, &mut reading, call.tests()));
-        }
         if self.has(9) {
             self.note(9, damage::reading_length(random, &mut reading));
+        }
+        if self.has(10) {
+            // A wrong byte needs room: where all was cut off, the length is wrong the other way.
+            if reading.is_empty() {
+                reading.resize(atoms + 1, 0);
+            }
+            self.damage(10, || damage::reading_byte(random, &mut reading, call.tests()));
         }
         reading
     }
