@@ -2,6 +2,7 @@
 
 use super::Comparer;
 use crate::calls::{Answer, Call, Calls};
+use crate::lists::get2;
 use crate::reference;
 use crate::suite::{Effort, Suite, PARTS};
 
@@ -59,6 +60,28 @@ fn buffer_left_alone() {
         reference::translate(theory, &mut out.to_vec())
     }
     found("translate", Calls { translate, ..reference::CALLS });
+}
+
+#[test]
+fn a_limit_below_the_largest_b() {
+    const REFUSED: Answer = Answer { number: 2, place: 0, result: 0 };
+    fn translate(theory: &[u8], out: &mut [u8]) -> Answer {
+        let mut program = out.to_vec();
+        let answer = reference::translate(theory, &mut program);
+        if answer.number == 0 && get2(&program, 2) == 3070 {
+            return REFUSED;
+        }
+        out.copy_from_slice(&program);
+        answer
+    }
+    fn extend(theory: &[u8], reading: &[u8], out: &mut [u8]) -> Answer {
+        match reference::extend(theory, reading, &mut out.to_vec()).result {
+            3070 => REFUSED,
+            _ => reference::extend(theory, reading, out),
+        }
+    }
+    found("translate", Calls { translate, ..reference::CALLS });
+    found("extend", Calls { extend, ..reference::CALLS });
 }
 
 #[test]

@@ -14,8 +14,7 @@ impl Suite<'_> {
         self.theory_limits()?;
         self.candidate_limits()?;
         self.listing_limits()?;
-        let book = generate::longest(&mut self.random, 1024, 1024, 256);
-        self.with_random_arguments(&book, 3, 4, true)?;
+        self.label_limits()?;
         self.program_limits()?;
         // Counts whose sum is over 3 and would not be in a byte.
         for counts in [[255, 1, 0], [128, 128, 0], [0, 254, 2], [85, 86, 85], [1, 255, 3]] {
@@ -72,6 +71,27 @@ impl Suite<'_> {
         }
         let book = generate::free(Book { atoms: 12, ..Book::default() });
         self.listing(&book, &book.image())
+    }
+
+    /// The most labels: none for the first node, which can only be a leaf, and two for each other one.
+    fn label_limits(&mut self) -> Checked<()> {
+        for first in [Node::False, Node::True, Node::Atom(0), Node::Atom(1023)] {
+            for roots in [0, 256] {
+                let mut book = generate::longest(&mut self.random, 1024, 1024, roots);
+                book.nodes[0] = first;
+                self.with_random_arguments(&book, 3, 4, true)?;
+                let all = 1024 + 2 * 1023;
+                self.comparer.expect(Call::Extend, &book.image(), &[1; 1024], all - 1, 8, Some(all))?;
+            }
+        }
+        for first in [Node::Not(0), Node::And(0, 0), Node::Or(0, 0), Node::Implies(0, 0)] {
+            let mut book = generate::longest(&mut self.random, 1024, 1024, 256);
+            book.nodes[0] = first;
+            for call in [Call::CheckTheory, Call::Translate, Call::Extend] {
+                self.comparer.expect(call, &book.image(), &[1; 1024], 0, 6, Some(0))?;
+            }
+        }
+        Ok(())
     }
 
     fn program_limits(&mut self) -> Checked<()> {
