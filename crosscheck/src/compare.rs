@@ -89,10 +89,10 @@ impl<'c> Comparer<'c> {
                 pattern[at]
             )));
         }
-        let (refused, written) = (first.number != 0, call.written(first.result));
-        if refused && first.result != 0 || !refused && first.place != 0 {
-            return Err(report("a refusal has no result and an acceptance no place".to_string()));
+        if let Some(fault) = fault(call, first) {
+            return Err(report(fault.to_string()));
         }
+        let (refused, written) = (first.number != 0, call.written(first.result));
         let kept = if refused || written > room { GUARD } else { GUARD + written };
         if ours[..GUARD] != pattern[..GUARD] || ours[kept..] != pattern[kept..] {
             return Err(report("bytes that must stay were changed".to_string()));
@@ -119,6 +119,18 @@ impl<'c> Comparer<'c> {
                 .finding(format!("both sides differ from what was expected: number {number}{place}")));
         }
         Ok(answer)
+    }
+}
+
+/// What is wrong with an answer of `call`, whatever its arguments were.
+fn fault(call: Call, answer: Answer) -> Option<&'static str> {
+    let refused = answer.number != 0;
+    if refused && !call.rows().contains(&answer.number) {
+        Some("no row of this call has this number")
+    } else if refused && answer.result != 0 || !refused && answer.place != 0 {
+        Some("a refusal has no result and an acceptance no place")
+    } else {
+        None
     }
 }
 

@@ -1,6 +1,8 @@
 //! The comparison itself under test: it accepts the reference and finds each of these broken versions of it.
 
-use crate::calls::{Answer, Calls};
+use super::Comparer;
+use crate::calls::{Answer, Call, Calls};
+use crate::lists::get2;
 use crate::reference;
 use crate::suite::{Effort, Suite, PARTS};
 
@@ -58,6 +60,28 @@ fn buffer_left_alone() {
         reference::translate(theory, &mut out.to_vec())
     }
     found("translate", Calls { translate, ..reference::CALLS });
+}
+
+#[test]
+fn a_limit_below_the_largest_b() {
+    const REFUSED: Answer = Answer { number: 2, place: 0, result: 0 };
+    fn translate(theory: &[u8], out: &mut [u8]) -> Answer {
+        let mut program = out.to_vec();
+        let answer = reference::translate(theory, &mut program);
+        if answer.number == 0 && get2(&program, 2) == 3070 {
+            return REFUSED;
+        }
+        out.copy_from_slice(&program);
+        answer
+    }
+    fn extend(theory: &[u8], reading: &[u8], out: &mut [u8]) -> Answer {
+        match reference::extend(theory, reading, &mut out.to_vec()).result {
+            3070 => REFUSED,
+            _ => reference::extend(theory, reading, out),
+        }
+    }
+    found("translate", Calls { translate, ..reference::CALLS });
+    found("extend", Calls { extend, ..reference::CALLS });
 }
 
 #[test]
@@ -150,4 +174,21 @@ fn a_fault_on_both_sides() {
     let broken = Calls { evaluate_program, ..reference::CALLS };
     let mut suite = Suite::new(&broken, &broken, 1);
     assert!(suite.labels(8).is_err());
+}
+
+/// Of all the numbers on which both sides may agree, only the rows of the call pass.
+#[test]
+fn a_number_that_is_no_row_of_the_call() {
+    /// Gives the number that is the image's first byte.
+    fn first(theory: &[u8]) -> Answer {
+        Answer { number: theory[0].into(), place: 0, result: 0 }
+    }
+    let broken =
+        Calls { translate: |theory, _| first(theory), extend: |theory, _, _| first(theory), ..reference::CALLS };
+    let mut comparer = Comparer::new(&broken, &broken);
+    let mut passed = |call: Call| -> Vec<u8> {
+        (0..=255).filter(|&number| comparer.call(call, &[number], &[], 0).is_ok()).collect()
+    };
+    assert_eq!(passed(Call::Translate), [0, 1, 2, 3, 4, 5, 6, 7, 8]);
+    assert_eq!(passed(Call::Extend), [0, 1, 2, 3, 4, 5, 6, 7, 8, 9, 10]);
 }

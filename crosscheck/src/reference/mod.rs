@@ -108,7 +108,6 @@ fn try_translate(theory: &[u8], out: &mut [u8]) -> Outcome<usize> {
     let theory = Theory::check(theory)?;
     let mut terms = flatten::NO_TERMS;
     let size = flatten::measure(&theory, &mut terms);
-    check_all(size.all)?;
     let out = check_room(out, HEADER + 10 * size.rules)?;
     let length = out.len() as u32;
     let (header, body) = out.split_at_mut(HEADER);
@@ -124,9 +123,8 @@ fn try_translate(theory: &[u8], out: &mut [u8]) -> Outcome<usize> {
 
 fn try_extend(theory: &[u8], reading: &[u8], out: &mut [u8]) -> Outcome<usize> {
     let theory = Theory::check(theory)?;
-    let all = theory.all();
-    check_all(all)?;
     check_reading(reading, theory.atoms)?;
+    let all = theory.all();
     let out = check_room(out, all)?;
     let mut values = NO_VALUES;
     theory.evaluate(reading, &mut values);
@@ -193,14 +191,6 @@ fn try_test_program(program: &[u8], candidate: &[u8]) -> Outcome<usize> {
     let mut reading = [0; MOST_ALL];
     let reading = &mut reading[..program.all];
     Ok(usize::from(is_answer_set(reading, truths.list(), |reading| program.satisfied(reading))))
-}
-
-/// Row 14.
-fn check_all(all: usize) -> Outcome<()> {
-    match all > MOST_ALL {
-        true => refuse(14, all),
-        false => Ok(()),
-    }
 }
 
 /// Rows 9 and 10 for an interpretation.

@@ -215,15 +215,39 @@ fn room_for_a_program() {
     assert_eq!(out, [1, 0, 1]);
 }
 
-#[test]
-fn the_largest_program_of_a_book() {
-    let mut nodes = vec![Node::Atom(0)];
+/// The image of `first` and 1,023 implications, each of the node before it and of `first`, over the most atoms.
+fn implications(first: Node, roots: usize) -> Vec<u8> {
+    let mut nodes = vec![first];
     nodes.extend((1..1024).map(|own| Node::Implies(own - 1, 0)));
-    let image = Book { atoms: 1024, nodes, roots: vec![1023; 256] }.image();
-    let (rules, program) = translated(&image);
-    assert_eq!(rules, 6394);
-    assert_eq!(usize::from(program[2]) + 256 * usize::from(program[3]), 1024 + 2 * 1023);
-    assert_eq!(check_program(&program), accepted(1));
+    Book { atoms: 1024, nodes, roots: vec![1023; roots] }.image()
+}
+
+#[test]
+fn the_largest_programs_of_a_book() {
+    const ALL: usize = 1024 + 2 * 1023;
+    // A constant takes rules away and no label.
+    for (first, rules) in [(Node::Atom(0), 6 * 1023), (Node::False, 3 + 4 * 1022), (Node::True, 2 + 4 * 1022)] {
+        for roots in [0, 256] {
+            let image = implications(first, roots);
+            let (count, program) = translated(&image);
+            assert_eq!((count, half(&program, 2)), (rules + roots, ALL));
+            assert_eq!(check_program(&program), accepted(1));
+            let mut out = [9; ALL];
+            assert_eq!(extend(&image, &[1; 1024], &mut out[..ALL - 1]), refused(8, ALL));
+            assert_eq!(out, [9; ALL]);
+            assert_eq!(extend(&image, &[1; 1024], &mut out), accepted(ALL));
+            assert_eq!(evaluate_program(&program, &out), evaluate_theory(&image, &[1; 1024]));
+        }
+    }
+}
+
+#[test]
+fn a_first_node_takes_no_label() {
+    for first in [Node::Not(0), Node::And(0, 0), Node::Or(0, 0), Node::Implies(0, 0)] {
+        let image = implications(first, 0);
+        assert_eq!(translate(&image, &mut [0; 70_000]), refused(6, 0));
+        assert_eq!(extend(&image, &[1; 1024], &mut [0; 4096]), refused(6, 0));
+    }
 }
 
 #[test]

@@ -14,8 +14,7 @@ impl Suite<'_> {
         self.theory_limits()?;
         self.candidate_limits()?;
         self.listing_limits()?;
-        let book = generate::longest(&mut self.random, 1024, 1024, 256);
-        self.with_random_arguments(&book, 3, 4, true)?;
+        self.label_limits()?;
         self.program_limits()?;
         // Counts whose sum is over 3 and would not be in a byte.
         for counts in [[255, 1, 0], [128, 128, 0], [0, 254, 2], [85, 86, 85], [1, 255, 3]] {
@@ -74,6 +73,27 @@ impl Suite<'_> {
         self.listing(&book, &book.image())
     }
 
+    /// The most labels: none for the first node, which can only be a leaf, and two for each other one.
+    fn label_limits(&mut self) -> Checked<()> {
+        for first in [Node::False, Node::True, Node::Atom(0), Node::Atom(1023)] {
+            for roots in [0, 256] {
+                let mut book = generate::longest(&mut self.random, 1024, 1024, roots);
+                book.nodes[0] = first;
+                self.with_random_arguments(&book, 3, 4, true)?;
+                let all = 1024 + 2 * 1023;
+                self.comparer.expect(Call::Extend, &book.image(), &[1; 1024], all - 1, 8, Some(all))?;
+            }
+        }
+        for first in [Node::Not(0), Node::And(0, 0), Node::Or(0, 0), Node::Implies(0, 0)] {
+            let mut book = generate::longest(&mut self.random, 1024, 1024, 256);
+            book.nodes[0] = first;
+            for call in [Call::CheckTheory, Call::Translate, Call::Extend] {
+                self.comparer.expect(call, &book.image(), &[1; 1024], 0, 6, Some(0))?;
+            }
+        }
+        Ok(())
+    }
+
     fn program_limits(&mut self) -> Checked<()> {
         let fact = |atom: usize| Rule::new(&[atom], &[], &[]);
         let empty = Rule::default();
@@ -104,7 +124,7 @@ impl Suite<'_> {
     /// For each call, every row that it has and every two of its rows broken at once: the earlier row must win.
     pub fn damaged(&mut self, times: usize) -> Checked<()> {
         for call in Call::ALL {
-            let rows = rows(call);
+            let rows = call.rows();
             for (index, &row) in rows.iter().enumerate() {
                 for &later in &rows[index..] {
                     for _ in 0..times {
@@ -255,28 +275,17 @@ impl Broken {
             reading = (0..atoms).map(|atom| if atom < truths { 2 } else { 0 }).collect();
             self.note(11, truths);
         }
-        if self.has(10) {
-            self.damage(10, || damage::reading_byte(random, &mut reading, call.tests()));
-        }
         if self.has(9) {
             self.note(9, damage::reading_length(random, &mut reading));
         }
+        if self.has(10) {
+            // A wrong byte needs room: where all was cut off, the length is wrong the other way.
+            if reading.is_empty() {
+                reading.resize(atoms + 1, 0);
+            }
+            self.damage(10, || damage::reading_byte(random, &mut reading, call.tests()));
+        }
         reading
-    }
-}
-
-/// The rows of each call, in the order in which they are tested. Row 14 cannot be reached.
-fn rows(call: Call) -> &'static [u32] {
-    match call {
-        Call::CheckTheory => &[1, 2, 3, 4, 5, 6, 7],
-        Call::EvaluateTheory => &[1, 2, 3, 4, 5, 6, 7, 9, 10],
-        Call::Translate => &[1, 2, 3, 4, 5, 6, 7, 8],
-        Call::Extend => &[1, 2, 3, 4, 5, 6, 7, 9, 10, 8],
-        Call::TestTheory => &[1, 2, 3, 4, 5, 6, 7, 9, 10, 11],
-        Call::ListSets => &[1, 2, 3, 4, 5, 6, 7, 11, 8],
-        Call::CheckProgram => &[21, 22, 23, 24, 25, 26],
-        Call::EvaluateProgram => &[21, 22, 23, 24, 25, 26, 9, 10],
-        Call::TestProgram => &[21, 22, 23, 24, 25, 26, 9, 10, 11],
     }
 }
 
