@@ -10,6 +10,7 @@ use lib.ListN.{length, getD, set}
 use lib.Seq.{getD-set-same, getD-set-other}
 use borrow.Author.Tests.{ltb-true, ltb-false}
 use Rattle.refusal.proofs.Table.{cases}
+use Rattle.refusal.proofs.Rows.{argumentRows-none}
 use Rattle.wire.specs.Sequence.{upTo}
 use Rattle.wire.proofs.Sequence.{upTo-more, length-upTo, getD-upTo}
 use Rattle.logic.specs.Atoms.{Atoms}
@@ -22,7 +23,7 @@ use Rattle.stable.specs.Number.{numberOf, setOfNumber}
 use Rattle.stable.specs.Bitmap.{bitAt, eightOf, isListed, Listable}
 use Rattle.stable.proofs.Digits.{odd-digit, half-digit}
 use Rattle.stable.proofs.Numbers.{length-setOfNumber, numberOf-lt}
-use Rattle.stable.proofs.Candidates.{candidate-accepted, candidateOf-candidate, setOf-candidateOf, length-candidateOf, countTrue-le}
+use Rattle.stable.proofs.Candidates.{candidateOf-candidate, setOf-candidateOf, length-candidateOf, countTrue-le}
 
 -- Bit j of a set's number says whether atom j is in the set.
 bit-numberOf : (T : Atoms) (j : ℕ) → odd (numberOf T / 2 ^ j) ≡ getD T j false
@@ -83,7 +84,7 @@ module _ {theory candidate reading values : List ℕ} (l : Listable theory candi
   pub number-testable : Testable false theory numbered
   number-testable = record {
     checked = l .checked;
-    accepted = candidate-accepted _ numbered length-numbered (candidateOf-candidate _);
+    accepted = argumentRows-none true _ numbered length-numbered (candidateOf-candidate _);
     few = omega (arith, countTrue-le numbered, length-numbered, l .few);
   }
 

@@ -8,11 +8,9 @@ use native.Mathlib.Omega.{arith}
 use lib.Dec.{eqb}
 use lib.ListN.{length, getD, length-map, take, drop, set}
 use lib.Seq.{drop-cons, take-suc-set, append-snoc}
-use borrow.Author.Tests.{lt-ltb, eq-eqb}
-use Rattle.refusal.specs.Table.{none}
-use Rattle.refusal.specs.Rows.{wrong, countTrue, argumentRows, candidateRows}
+use borrow.Author.Tests.{lt-ltb}
+use Rattle.refusal.specs.Rows.{wrong, countTrue}
 use Rattle.refusal.proofs.Table.{cases}
-use Rattle.refusal.proofs.First.{firstSuch-none}
 use Rattle.logic.specs.Value.{number, ofByte, trueHere}
 use Rattle.logic.specs.Formula.{readingOf}
 use Rattle.logic.specs.Atoms.{Atoms, mark, reading, hereOf}
@@ -49,11 +47,6 @@ candidate-size [] h = refl
 candidate-size (b ∷ bytes) h =
     candidate-byte (λ b. size (trueHere (ofByte b) ∷ setOf bytes) ≡ cond (eqb b 2) (suc (countTrue bytes)) (countTrue bytes))
     (candidate-size bytes (candidate-tail b bytes h)) (ap suc (candidate-size bytes (candidate-tail b bytes h))) b (h 0 (omega arith))
-
--- Rows 9 and 10 accept a candidate of n atoms.
-pub candidate-accepted : (n : ℕ) (bytes : List ℕ) → length bytes ≡ n → Candidate bytes → none (candidateRows n bytes) ≡ true
-unfolding argumentRows
-candidate-accepted n bytes e h = rw (eq-eqb (length bytes) n e, firstSuch-none 10 (λ i. wrong true (getD bytes i 0)) (length bytes) .1 h)
 
 pub countTrue-le : (bytes : List ℕ) → countTrue bytes ≤ length bytes
 unfolding countTrue

@@ -4,12 +4,11 @@ use mathlib.Core.Bool.{true, false}
 use mathlib.Core.List.{List, [], _∷_, _++_, map}
 use Prim.Native.Nat.{ℕ}
 use lib.ListN.{length, getD, take, length-map, List·getD-map}
-use borrow.Author.Tests.{le-ltb, eq-eqb}
+use borrow.Author.Tests.{le-ltb}
 use Rattle.refusal.specs.Table.{none, yes, answer, accepted}
 use Rattle.refusal.specs.Rows.{wrong, row8, argumentRows, readingRows}
 use Rattle.refusal.proofs.Table.{answer-both, answer-yes, none-split}
-use Rattle.refusal.proofs.First.{firstSuch-none}
-use Rattle.refusal.proofs.Rows.{none-argumentRows}
+use Rattle.refusal.proofs.Rows.{none-argumentRows, argumentRows-none}
 use Rattle.logic.specs.declared.Value.the-variants.{Neither}
 use Rattle.logic.specs.Value.{number, ofByte}
 use Rattle.logic.specs.Formula.{Formula, Reading, readingOf, satisfies, AllOver}
@@ -39,10 +38,7 @@ number-right : (I : Reading) (i : ℕ) → wrong false (getD (map number I) i 0)
 number-right I i = rw (List·getD-map number I i Neither, le-ltb 2 (number (getD I i Neither)) (number-small (getD I i Neither)))
 
 reading-accepted : (I : Reading) (n : ℕ) → length I ≡ n → none (readingRows n (map number I)) ≡ true
-unfolding argumentRows
-reading-accepted I n e =
-    let size : length (map number I) ≡ n = length-map I number ∙ e in
-    rw (eq-eqb (length (map number I)) n size, firstSuch-none 10 (λ i. wrong false (getD (map number I) i 0)) (length (map number I)) .1 (λ i l. number-right I i))
+reading-accepted I n e = argumentRows-none false n (map number I) (length-map I number ∙ e) (λ i l. number-right I i)
 
 -- An extension that is not refused has a reading that is not refused.
 pub extendRows-reading : (t r : List ℕ) (room : ℕ) → none (extendRows t r room) ≡ true → none (readingRows (atomCount t) r) ≡ true
