@@ -24,7 +24,6 @@
  *  9       reading's length is not the atom count              count wanted
  *  10      a byte over 2; for a candidate also a byte 1        first such index
  *  11      over 16 true atoms; for a listing A over 12         that number
- *  14      B would be over 3,072                               B
  *  21      program shorter than 16 bytes                       0
  *  22      A, B or K outside its limits (1,024, 3,072, 6,400)  0
  *  23      bytes 6-7 of the program not zero                   0
@@ -57,12 +56,12 @@ struct rulebook_answer rulebook_evaluate_theory(
     const uint8_t *theory, size_t theory_length,
     const uint8_t *reading, size_t reading_length);
 
-/* Writes the flat program of a theory, 16 + 10K bytes. Rows 1-7, 14, 8. Result: K, the number of its rules. */
+/* Writes the flat program of a theory, 16 + 10K bytes. Rows 1-7, 8. Result: K, the number of its rules. */
 struct rulebook_answer rulebook_translate(
     const uint8_t *theory, size_t theory_length,
     uint8_t *out, size_t out_length);
 
-/* Writes the A bytes of a reading and then the value of each label, B bytes in all, also for a reading that does not satisfy. Rows 1-7, 14, 9, 10, 8. Result: B. */
+/* Writes the A bytes of a reading and then the value of each label, B bytes in all and at most 3,070, also for a reading that does not satisfy. Rows 1-7, 9, 10, 8. Result: B. */
 struct rulebook_answer rulebook_extend(
     const uint8_t *theory, size_t theory_length,
     const uint8_t *reading, size_t reading_length,
