@@ -1,3 +1,4 @@
+pub mod ByKind
 pub mod Sizes
 pub mod Simplify
 pub mod OneNode

@@ -1,45 +1,29 @@
--- How large B gets: a kind takes at most two labels, and node 0, which has no earlier node, takes none. By the kinds and induction on the nodes. Assumes nothing.
+-- How large B gets: a kind takes at most two labels, and node 0, which has no earlier node, takes none. By induction on the nodes. Assumes nothing.
 use mathlib.Core.Path.{_≡_, refl}
+use mathlib.Core.Logic.{⊎-elim}
 use mathlib.Core.Bool.{true}
 use mathlib.Core.List.{List, [], _∷_}
-use Prim.Native.Nat.{ℕ, _*_, _-_, _≤_, _<_}
+use Prim.Native.Nat.{ℕ, _*_, _-_, _≤_}
 use native.Mathlib.Omega.{arith}
 use lib.ListN.{length, replicate}
 use Rattle.refusal.specs.Limits.{mostAtoms, mostNodes}
 use Rattle.logic.proofs.Bools.{&&-split}
-use Rattle.theory.specs.Book.{Kind, falseKind, trueKind, atomKind, notKind, andKind, orKind, impliesKind, Node, Book, leftLimit, fits, allFit, WellFormed}
-use Rattle.theory.proofs.Books.{fits-left}
+use Rattle.theory.specs.Book.{falseKind, impliesKind, Node, Book, fits, allFit, WellFormed}
+use Rattle.theory.proofs.Books.{fits-left, fits-right}
 use Rattle.flat.specs.Table.{labelCount}
 use Rattle.flat.specs.Flat.{labelTotal, flat, largestB}
+use Rattle.flat.proofs.ByKind.{labelCount-le, operands}
 
--- A kind takes at most two labels.
-pub labelCount-le : (k : Kind) → labelCount k ≤ 2
-labelCount-le falseKind = omega arith
-labelCount-le trueKind = omega arith
-labelCount-le atomKind = omega arith
-labelCount-le notKind = omega arith
-labelCount-le andKind = omega arith
-labelCount-le orKind = omega arith
-labelCount-le impliesKind = omega arith
-
--- A kind that takes a label has an earlier node on its left, so node 0 takes none.
+-- Node 0 takes no label: it would have operands.
 first-unlabelled : (A : ℕ) (n : Node) → fits A 0 n ≡ true → labelCount (n .kind) ≡ 0
-first-unlabelled A n ok = by-kind (n .kind) (fits-left A 0 n ok)
-  where
-    by-kind : (k : Kind) → n .left < leftLimit A 0 k → labelCount k ≡ 0
-    by-kind falseKind h = refl
-    by-kind trueKind h = refl
-    by-kind atomKind h = refl
-    by-kind notKind h = absurd (omega arith)
-    by-kind andKind h = absurd (omega arith)
-    by-kind orKind h = absurd (omega arith)
-    by-kind impliesKind h = absurd (omega arith)
+first-unlabelled A n ok = ⊎-elim (λ e. e .1) (λ l. absurd (omega arith)) (operands A 0 (n .kind) (n .left) (n .right) (fits-left A 0 n ok) (fits-right A 0 n ok))
 
-labelTotal-le : (ns : List Node) → labelTotal ns ≤ 2 * length ns
+-- Nodes take at most two labels each,
+pub labelTotal-le : (ns : List Node) → labelTotal ns ≤ 2 * length ns
 labelTotal-le [] = omega arith
 labelTotal-le (n ∷ ns) = omega (arith, labelCount-le (n .kind), labelTotal-le ns)
 
--- So the labels of N nodes are at most two for each but the first.
+-- and those of a book at most two for each but the first.
 labels-fit : (A : ℕ) (ns : List Node) → allFit A 0 ns ≡ true → labelTotal ns ≤ 2 * (length ns - 1)
 labels-fit A [] ok = omega arith
 labels-fit A (n ∷ ns) ok = omega (arith, first-unlabelled A n (&&-split (fits A 0 n) (allFit A 1 ns) ok .0), labelTotal-le ns)

@@ -19,7 +19,7 @@ clear : (a b : Bool) → (not a && b) ≡ true → (a ≡ false) × (b ≡ true)
 clear a b h = let t = and-eq-true-iff (not a) b .0 h in (not-true a (t .0), t .1)
 
 -- where no row applies, the first does not, and none behind it does
-pub none-cons : (r : Row) (rs : List Row) → none (r ∷ rs) ≡ true → (r .applies ≡ false) × (none rs ≡ true)
+none-cons : (r : Row) (rs : List Row) → none (r ∷ rs) ≡ true → (r .applies ≡ false) × (none rs ≡ true)
 none-cons r rs = clear (r .applies) (none rs)
 
 -- and the one at each index does not

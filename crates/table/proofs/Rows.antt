@@ -10,7 +10,7 @@ use Rattle.logic.proofs.Finite.{all, all-at}
 use Rattle.wire.specs.Sequence.{upTo}
 use Rattle.theory.specs.Image.{kindOf}
 use Rattle.flat.specs.Table.{rows, labelCount}
-use Rattle.flat.proofs.Sizes.{labelCount-le}
+use Rattle.flat.proofs.ByKind.{labelCount-le}
 use Rattle.table.specs.Shapes.{shapes, firstRow, rowCount, labelsOf, shapeRule, kindShape, KindIn, Fillable}
 
 -- What holds at each of the numbers 0 to 6 holds at each number below 7.

@@ -27,13 +27,14 @@ use Rattle.theory.specs.NodeValues.{valuesTo, nodeValues}
 use Rattle.theory.proofs.NodeValues.{value-formula, length-valuesTo, valuesTo-more, nodeValues-bookOf}
 use Rattle.flat.specs.Table.{labelCount}
 use Rattle.flat.specs.Extension.{meanings, labels, labelsFrom, extend}
+use Rattle.flat.proofs.ByKind.{operands}
 use Rattle.flat.proofs.Extensions.{length-extend}
 use Rattle.table.proofs.Rows.{labels-count}
 use Rattle.translation.specs.Outcome.{sizeOf}
 use Rattle.translation.specs.Turns.{Nodes, labelBytes, labelsTo}
 use Rattle.translation.proofs.Sections.{nodes-accepted}
 use Rattle.translation.proofs.Turns.{labelsTo-none, labelsTo-more}
-use Rattle.translation.proofs.NodeTerms.{operands, node-fits, kind-known}
+use Rattle.translation.proofs.NodeTerms.{node-fits, kind-known}
 
 -- ---- one node more
 

@@ -1,6 +1,6 @@
 -- A node's operands stand before it, so the terms that the code has numbered by then give its rules. By the rows of the kinds and induction on the nodes. Assumes nothing.
 use mathlib.Core.Path.{_≡_, refl, sym, ap, _∙_, fun-ext}
-use mathlib.Core.Logic.{_⊎_, inl, inr, ⊎-elim}
+use mathlib.Core.Logic.{⊎-elim}
 use mathlib.Core.Bool.{true, false}
 use mathlib.Core.List.{List, [], _∷_, _++_, map}
 use Prim.Native.Nat.{ℕ, zero, suc, _+_, _*_, _≤_, _<_}
@@ -13,17 +13,20 @@ use lib.Seq.{getD-take}
 use borrow.Author.Tests.{ltb-true}
 use Rattle.refusal.specs.Limits.{mostAtoms, mostNodes, mostB}
 use Rattle.logic.proofs.Bools.{&&-split}
+use Rattle.wire.specs.Sequence.{upTo}
+use Rattle.wire.proofs.Sequence.{length-upTo}
 use Rattle.theory.specs.Book.{Kind, falseKind, trueKind, atomKind, notKind, andKind, orKind, impliesKind, leftLimit, rightLimit}
 use Rattle.theory.specs.Image.{nodeIn}
 use Rattle.flat.specs.Table.{Slot, x, y, L, M, rows, labelCount}
 use Rattle.flat.specs.Flat.{Term, constant, name, fill, instances, termAt, nodeRules, termOf, term}
-use Rattle.flat.proofs.Sizes.{labelCount-le}
+use Rattle.flat.proofs.ByKind.{labelCount-le, operands}
+use Rattle.flat.proofs.Sizes.{labelTotal-le}
 use Rattle.table.specs.Shapes.{kinds, labelsIn}
 use Rattle.table.specs.OneRule.{falseTerm, code, decode, filled}
 use Rattle.table.proofs.Rows.{labels-count, labels-few}
 use Rattle.table.proofs.OneRule.{Below, decode-code}
 use Rattle.translation.specs.Turns.{Nodes, nextTo, termsTo, slotTerms, kindRules, NumberedTo}
-use Rattle.translation.proofs.Turns.{nextTo-none, nextTo-more, termsTo-none, termsTo-more, length-termsTo}
+use Rattle.translation.proofs.Turns.{nextTo-more, termsTo-none, termsTo-more, length-termsTo}
 
 -- ---- by kind
 
@@ -35,16 +38,6 @@ limits-small A k notKind h l = omega arith
 limits-small A k andKind h l = omega arith
 limits-small A k orKind h l = omega arith
 limits-small A k impliesKind h l = omega arith
-
--- A kind has no rules and no labels, or its operands are earlier nodes.
-pub operands : (A k : ℕ) (kind : Kind) (left right : ℕ) → left < leftLimit A k kind → right < rightLimit k kind → ((rows kind ≡ []) × (labelCount kind ≡ 0)) ⊎ ((left < k) × (right < k))
-operands A k falseKind left right h l = inl (refl, refl)
-operands A k trueKind left right h l = inl (refl, refl)
-operands A k atomKind left right h l = inl (refl, refl)
-operands A k notKind left right h l = inr (h, omega arith)
-operands A k andKind left right h l = inr (h, l)
-operands A k orKind left right h l = inr (h, l)
-operands A k impliesKind left right h l = inr (h, l)
 
 -- The term of a node is below the next label.
 term-below : (A k next : ℕ) (kind : Kind) (left : ℕ) → left < leftLimit A k kind → A ≤ next → Below (next + labelCount kind) (termOf next kind left)
@@ -97,9 +90,9 @@ module _ (A : ℕ) (s : List ℕ) (N : ℕ) (ok : Nodes A s N) where
       (omega (arith, node-fits k h), omega (arith, node-fits k h))
 
   -- Labels only go up, two a node at most.
-  pub next-le : (k : ℕ) → (A ≤ nextTo A s k) × (nextTo A s k ≤ A + k * 2)
-  next-le zero = rw nextTo-none (omega arith)
-  next-le (suc k) = rw (← add-one, nextTo-more) (omega (arith, labelCount-le (nodeIn s k .kind), next-le k))
+  next-le : (k : ℕ) → (A ≤ nextTo A s k) × (nextTo A s k ≤ A + k * 2)
+  unfolding nextTo
+  next-le k = omega (arith, labelTotal-le (upTo (nodeIn s) k), length-upTo (nodeIn s) k)
 
   pub node-known : (k : ℕ) → k < N → (index : List (List ℕ)) (kind : ℕ) → index ≡ kinds → kind ≡ getD s (k * 6) 0 → Known A s k index kind
   node-known k h index kind i e =

@@ -1,15 +1,16 @@
 -- What translation and extension answer at each of their returns, by the rows' tests. Assumes nothing.
-use mathlib.Core.Path.{_≡_, refl}
-use mathlib.Core.Bool.{true, false}
-use mathlib.Core.List.{List, [], _∷_, _++_, map}
+use mathlib.Core.Path.{_≡_, refl, sym}
+use mathlib.Core.Bool.{true}
+use mathlib.Core.List.{List, [], _∷_, map}
 use Prim.Native.Nat.{ℕ, _≤_, _<_}
 use lib.ListN.{length}
 use borrow.Author.Tests.{lt-ltb, le-ltb}
 use Rattle.refusal.specs.Table.{Row, refused, accepted, answer, none}
 use Rattle.refusal.specs.Rows.{row8, readingRows}
 use Rattle.refusal.specs.declared.Answer.{Answer}
-use Rattle.refusal.proofs.Table.{answer-past, answer-refused, none-past, none-refused}
+use Rattle.refusal.proofs.Table.{answer-past, none-past}
 use Rattle.wire.specs.Wire.{over}
+use Rattle.wire.proofs.Outcome.{outcome-both, outcome-refused}
 use Rattle.logic.specs.Value.{number}
 use Rattle.logic.specs.Formula.{readingOf}
 use Rattle.theory.specs.Image.{atomCount, bookOf}
@@ -44,10 +45,9 @@ module _ (t reading out : List ℕ) where
   -- The reading is refused by row 9 or 10.
   pub extend-reading : {a : Answer} → a ≡ answer rs 0 → (a .number ≡ 0 → ⊥) → (a ≡ answer rows (sizeOf t)) × (extended t reading out ≡ out)
   unfolding extendRows extended
-  extend-reading {a} e refuses =
-      let all : a ≡ answer (rs ++ qs) (sizeOf t) = answer-refused rs qs 0 (sizeOf t) e refuses in
-      let some : none (rs ++ qs) ≡ false = none-refused (rs ++ qs) (sizeOf t) all refuses in
-      (all, rw some)
+  extend-reading e refuses =
+      let same = outcome-both (outcome-refused rs qs (map number (extend (bookOf t) (readingOf reading))) out (sizeOf t) 0 e refuses) in
+      (same .0, sym (same .1))
 
   -- The room is too short: row 8 refuses.
   pub extend-short : none rs ≡ true → length out < sizeOf t → (answer rows (sizeOf t) ≡ refused 8 (sizeOf t)) × (extended t reading out ≡ out)
