@@ -13,7 +13,7 @@ use Rattle.logic.specs.Value.{number, larger, trueHere}
 use Rattle.logic.specs.Formula.{Formula, falsum, neg, Reading, valueOf, value, satisfies}
 use Rattle.logic.proofs.Bools.{beq-sound, &&-split, &&-if}
 use Rattle.logic.proofs.Finite.{same, same-sound, agree₁}
-use Rattle.theory.specs.Book.{Kind, falseKind, trueKind, atomKind, notKind, andKind, orKind, impliesKind, Node, leftLimit, rightLimit, fits, allFit, say, formulaAt, formula, formulas}
+use Rattle.theory.specs.Book.{Kind, falseKind, trueKind, atomKind, notKind, andKind, orKind, impliesKind, Node, leftLimit, leftFits, rightFits, fits, allFit, say, formulaAt, formula, formulas}
 use Rattle.program.specs.Rule.{allHold}
 use Rattle.program.proofs.Rules.{allHold-append}
 use Rattle.flat.specs.Table.{labelCount}
@@ -101,7 +101,7 @@ module _ (A : ℕ) (I J : Reading) (low : (a : ℕ) → a < A → valueOf J a �
       let later = agree J (next + labelCount (n .kind)) (map (value I) (labelsFrom fs′ ns)) in
       let asserted = satisfies I (map (formulaAt (formulas fs′ ns)) roots) in
       let fit = &&-split (fits A i n) (allFit A (suc i) ns) ok in
-      let left-fits = &&-split (ltb (n .left) (leftLimit A i (n .kind))) (ltb (n .right) (rightLimit i (n .kind))) (fit .0) .0 in
+      let left-fits = &&-split (leftFits A i n) (rightFits i n) (fit .0) .0 in
       let sound : now ≡ true → Sound ts′ fs′
       = λ h. rw (map-append (termValue J) ts (term next n ∷ []), map-append (value I) fs (formula fs n ∷ []), s, term-value (n .kind) (n .left) i next (formulaAt fs (n .left)) (formulaAt fs (n .right)) left-fits h) in
       allHold-append (valueOf J) (nodeRules ts next n) rest

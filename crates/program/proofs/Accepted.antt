@@ -9,7 +9,7 @@ use borrow.Author.Tests.{ltb-true, ltb-false, leb-true, eqb-true, not-false, lt-
 use Rattle.refusal.specs.Limits.{mostAtoms, mostB, mostRules}
 use Rattle.refusal.specs.Table.{none}
 use Rattle.refusal.proofs.Table.{none-at}
-use Rattle.refusal.proofs.First.{firstSuch-none}
+use Rattle.refusal.proofs.First.{first-none}
 use Rattle.wire.specs.Wire.{u16At, u32At}
 use Rattle.logic.proofs.Bools.{&&-split, ||-split}
 use Rattle.program.specs.Image.{atomCount, sizeOf, ruleCount, headerLength, ruleStart, imageLength, ruleSection, usedIn, slotsIn, slotKeeps, slotsKeep, ruleKeeps}
@@ -54,7 +54,7 @@ none-programRows p h =
       offset = eqb-true _ _ (not-false _ (fields .0));
       total = total;
       exact = eqb-true _ _ (not-false _ (clear 4)) ∙ total;
-      keeps = λ k l. not-false _ (firstSuch-none 26 _ _ .0 (clear 5) k l);
+      keeps = λ k l. not-false _ (first-none _ _ .0 (clear 5) k l);
     }
 
 pub programRows-none : (p : List ℕ) → Accepted p → none (programRows p) ≡ true
@@ -65,7 +65,7 @@ programRows-none p a =
     = rw (le-ltb _ _ (inside .atoms), le-ltb _ _ (inside .within), le-ltb _ _ (inside .size), le-ltb _ _ (inside .count)) in
     let r24 : row24 p .applies ≡ false = rw (eq-eqb _ _ (a .offset), eq-eqb _ _ (a .total)) in
     let r25 : row25 p .applies ≡ false = rw (eq-eqb _ _ (a .exact ∙ sym (a .total))) in
-    let r26 : row26 p .applies ≡ false = firstSuch-none 26 _ _ .1 (λ k l. ap not (a .keeps k l)) in
+    let r26 : row26 p .applies ≡ false = first-none _ _ .1 (λ k l. ap not (a .keeps k l)) in
     rw (le-ltb _ _ (a .long), r22, eq-eqb _ _ (a .zeros), r24, r25, r26)
 
 -- ---- a rule

@@ -10,7 +10,7 @@ use lib.Dec.{ltb}
 use borrow.Author.Tests.{lt-ltb, le-ltb, ltb-true, ltb-false}
 use Rattle.refusal.specs.declared.Answer.{Answer}
 use Rattle.refusal.specs.Table.{Row, refused, answer}
-use Rattle.refusal.specs.First.{first, firstSuch, FirstAt}
+use Rattle.refusal.specs.First.{first, firstPlaced, FirstAt}
 use Rattle.refusal.proofs.Table.{cases, Reached, reached-next, reached-refused}
 
 -- it is at most the bound
@@ -46,23 +46,24 @@ module _ (test : ℕ → Bool) (n k : ℕ) (not-passed : k ≤ first test n) whe
   pub first-end : n ≤ k → k ≡ first test n
   first-end h = omega (arith, first-le test n)
 
--- the row of the first such number, where a scan has found k: below the bound it refuses with that place, and at the bound it is past
-module _ (number : ℕ) (test : ℕ → Bool) (n k : ℕ) (found : k ≡ first test n) {rows rest : List Row} {x : ℕ} (at : Reached rows x (firstSuch number test n ∷ rest)) where
-  pub firstSuch-refused : k < n → {a : Answer} → a ≡ refused number k → a ≡ answer rows x
-  firstSuch-refused h e = reached-refused at (rw (← found) (lt-ltb k n h)) (rw (← found) e)
-
-  pub firstSuch-next : n ≤ k → Reached rows x rest
-  firstSuch-next h = reached-next at (rw (← found) (le-ltb k n h))
-
--- that row does not apply exactly if the test fails at every number below the bound
-pub firstSuch-none : (number : ℕ) (test : ℕ → Bool) (n : ℕ) → (firstSuch number test n .applies ≡ false) ↔ ((k : ℕ) → k < n → test k ≡ false)
-firstSuch-none number test n = (
+-- there is none exactly if the test fails at every number below the bound
+pub first-none : (test : ℕ → Bool) (n : ℕ) → (ltb (first test n) n ≡ false) ↔ ((k : ℕ) → k < n → test k ≡ false)
+first-none test n = (
   λ h k l. first-before test n k (omega (arith, ltb-false (first test n) n h)),
   λ h. cases (ltb (first test n) n) (λ t. let l = ltb-true (first test n) n t in absurd (true≢false (sym (first-at test n l) ∙ h (first test n) l))) (λ t. t),
 )
 
--- where it applies, its place is the first such number
-pub firstSuch-first : (number : ℕ) (test : ℕ → Bool) (n : ℕ) → firstSuch number test n .applies ≡ true → FirstAt test n (firstSuch number test n .place)
-firstSuch-first number test n h =
+-- where there is one, it is the first such
+pub first-is : (test : ℕ → Bool) (n : ℕ) → ltb (first test n) n ≡ true → FirstAt test n (first test n)
+first-is test n h =
     let l = ltb-true (first test n) n h in
     record { below = l; holds = first-at test n l; not-before = first-before test n }
+
+-- the row of the first such number, where a scan has found k: below the bound it refuses with the place made from k, and at the bound it is past
+module _ (number : ℕ) (place : ℕ → ℕ) (test : ℕ → Bool) (n k : ℕ) (found : k ≡ first test n)
+    {rows rest : List Row} {x : ℕ} (at : Reached rows x (firstPlaced number place test n ∷ rest)) where
+  pub first-refused : k < n → {a : Answer} → a ≡ refused number (place k) → a ≡ answer rows x
+  first-refused h e = reached-refused at (rw (← found) (lt-ltb k n h)) (rw (← found) e)
+
+  pub first-next : n ≤ k → Reached rows x rest
+  first-next h = reached-next at (rw (← found) (le-ltb k n h))

@@ -11,7 +11,7 @@ use borrow.Author.Tests.{not-false, eqb-true, eq-eqb}
 use Rattle.refusal.specs.Table.{none, numbered}
 use Rattle.refusal.specs.Rows.{countTrue, wrong, argumentRows}
 use Rattle.refusal.proofs.Table.{none-at}
-use Rattle.refusal.proofs.First.{firstSuch-none}
+use Rattle.refusal.proofs.First.{first-none}
 
 -- the bytes 2 from an index on are those behind it, and one more where that byte is 2
 pub countTrue-drop : (bytes : List ℕ) (i : ℕ) → i < length bytes
@@ -30,10 +30,10 @@ pub none-argumentRows : (candidate : Bool) (count : ℕ) (bytes : List ℕ) → 
 unfolding argumentRows
 none-argumentRows candidate count bytes h =
     let clear = none-at (argumentRows candidate count bytes) h in
-    (eqb-true _ _ (not-false _ (clear 0)), firstSuch-none 10 _ _ .0 (clear 1))
+    (eqb-true _ _ (not-false _ (clear 0)), first-none _ _ .0 (clear 1))
 
 -- and where that is so, neither applies
 pub argumentRows-none : (candidate : Bool) (count : ℕ) (bytes : List ℕ) → length bytes ≡ count
     → ((i : ℕ) → i < length bytes → wrong candidate (getD bytes i 0) ≡ false) → none (argumentRows candidate count bytes) ≡ true
 unfolding argumentRows
-argumentRows-none candidate count bytes e h = rw (eq-eqb (length bytes) count e, firstSuch-none 10 (λ i. wrong candidate (getD bytes i 0)) (length bytes) .1 h)
+argumentRows-none candidate count bytes e h = rw (eq-eqb (length bytes) count e, first-none (λ i. wrong candidate (getD bytes i 0)) (length bytes) .1 h)

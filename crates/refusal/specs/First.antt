@@ -10,9 +10,13 @@ unfoldable pub first : (ℕ → Bool) → ℕ → ℕ
 first test zero = 0
 first test (suc n) = cond (test 0) 0 (suc (first (λ k. test (suc k)) n))
 
--- the row with this number that applies where the test holds at some number below n; its place is the first such
+-- the row with this number that applies where the test holds at some number below n; its place is made from the first such
+abbrev pub firstPlaced : ℕ → (place : ℕ → ℕ) → (ℕ → Bool) → ℕ → Row
+firstPlaced number place test n = record { number = number; applies = ltb (first test n) n; place = place (first test n) }
+
+-- the row whose place is that number itself
 abbrev pub firstSuch : ℕ → (ℕ → Bool) → ℕ → Row
-firstSuch number test n = record { number = number; applies = ltb (first test n) n; place = first test n }
+firstSuch number = firstPlaced number (λ k. k)
 
 -- k is the first number below n at which the test holds
 pub record FirstAt (test : ℕ → Bool) (n k : ℕ) : Type 0 where

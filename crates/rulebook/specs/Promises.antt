@@ -3,7 +3,7 @@ use mathlib.Core.Path.{_≡_, refl, sym, _∙_}
 use mathlib.Core.Logic.{_↔_}
 use mathlib.Core.Bool.{Bool, true, not, cond}
 use mathlib.Core.List.{List, _∷_, _++_, map, List·Memᴰ}
-use Prim.Native.Nat.{ℕ, suc, min, max, _≤_, _<_}
+use Prim.Native.Nat.{ℕ, suc, min, max, _/_, _%_, _≤_, _<_}
 use native.Mathlib.Omega.{arith}
 use lib.Dec.{ltb, leb, eqb}
 use lib.ListN.{length, getD, take, drop}
@@ -16,7 +16,7 @@ use Rattle.refusal.proofs.Table.{answer-none, answer-exact, answer-unused, none
 use Rattle.wire.specs.Wire.{Bytes}
 use Rattle.wire.specs.Outcome.{Outcome, outcome, written}
 use Rattle.wire.proofs.Outcome
-use Rattle.refusal.proofs.First.{firstSuch-first}
+use Rattle.refusal.proofs.First.{first-is}
 use Rattle.logic.specs.declared.Value.{Value}
 use Rattle.logic.specs.declared.Value.the-variants.{Both}
 use Rattle.logic.specs.Value.{number, smaller, larger, negation, implication}
@@ -29,8 +29,9 @@ use Rattle.logic.proofs.Worlds
 use Rattle.logic.proofs.AnswerSets
 use Rattle.theory.specs.Book.{Book, nodeAt, impliesKind, WellFormed, formulaAt, nodeFormulas, bookFormulas}
 use Rattle.theory.specs.BenchCases.{BenchCase, benchCases, atomsFrom, setsOf}
-use Rattle.theory.specs.Image.{atomCount, nodeCount, rootCount, nodeSection, rootSection, nodeKeeps, rootIn, bookOf}
+use Rattle.theory.specs.Image.{atomCount, nodeCount, rootCount, nodeSection, rootSection, isWrong, breaks, rootIn, bookOf}
 use Rattle.theory.specs.Rows.{row6, row7, headerRows, theoryRows}
+use Rattle.theory.proofs.Rows as Rows
 use Rattle.theory.proofs.Rows.{numbered-theoryRows}
 use Rattle.theory.proofs.Accepted
 use Rattle.theory.proofs.BenchCases as books
@@ -144,19 +145,21 @@ listSets-accepted : (t o : List ℕ) → none (listSetsRows t o) ≡ true
     → (take (length (listing t)) (listSets t o .out) ≡ listing t) × (drop (length (listing t)) (listSets t o .out) ≡ drop (length (listing t)) o)
 listSets-accepted t o = Outcome.written-accepted (listSetsRows t o) (listing t) o
 
--- The place of 6 is the first such node, that of 7 the first such root, that of 26 the first such rule, that of 10 the first such index.
+-- The place of 6, divided by 8, is the first node that breaks its row; its remainder is the first of that node's four fields that is wrong.
+row6-first : (t : List ℕ) → row6 t .applies ≡ true → let node = row6 t .place / 8 in
+    FirstAt (breaks (atomCount t) (nodeSection t)) (nodeCount t) node × FirstAt (isWrong (atomCount t) (nodeSection t) node) 4 (row6 t .place % 8)
+row6-first = Rows.row6-first
 
-row6-first : (t : List ℕ) → row6 t .applies ≡ true → FirstAt (λ k. not (nodeKeeps (atomCount t) (nodeSection t) k)) (nodeCount t) (row6 t .place)
-row6-first t = firstSuch-first 6 (λ k. not (nodeKeeps (atomCount t) (nodeSection t) k)) (nodeCount t)
+-- The place of 7 is the first such root, that of 26 the first such rule, that of 10 the first such index.
 
 row7-first : (t : List ℕ) → row7 t .applies ≡ true → FirstAt (λ i. not (ltb (rootIn (rootSection t) i) (nodeCount t))) (rootCount t) (row7 t .place)
-row7-first t = firstSuch-first 7 (λ i. not (ltb (rootIn (rootSection t) i) (nodeCount t))) (rootCount t)
+row7-first t = first-is (λ i. not (ltb (rootIn (rootSection t) i) (nodeCount t))) (rootCount t)
 
 row26-first : (p : List ℕ) → row26 p .applies ≡ true → FirstAt (λ k. not (ruleKeeps (sizeOf p) (ruleSection p) k)) (ruleCount p) (row26 p .place)
-row26-first p = firstSuch-first 26 (λ k. not (ruleKeeps (sizeOf p) (ruleSection p) k)) (ruleCount p)
+row26-first p = first-is (λ k. not (ruleKeeps (sizeOf p) (ruleSection p) k)) (ruleCount p)
 
 row10-first : (candidate : Bool) (r : List ℕ) → row10 candidate r .applies ≡ true → FirstAt (λ i. wrong candidate (getD r i 0)) (length r) (row10 candidate r .place)
-row10-first candidate r = firstSuch-first 10 (λ i. wrong candidate (getD r i 0)) (length r)
+row10-first candidate r = first-is (λ i. wrong candidate (getD r i 0)) (length r)
 
 -- An accepted image is a well-formed book.
 accepted-book : (t : List ℕ) → none (theoryRows t) ≡ true → WellFormed (bookOf t)

@@ -1,6 +1,6 @@
 -- What an image that no row refuses is like: each row that does not apply gives its fact, and together they make the book well formed.
 use mathlib.Core.Path.{_≡_}
-use mathlib.Core.Bool.{true}
+use mathlib.Core.Bool.{true, false}
 use mathlib.Core.List.{List, [], _∷_}
 use Prim.Native.Nat.{ℕ, _+_, _*_, _≤_, _<_}
 use native.Mathlib.Nat.{zero-add}
@@ -11,13 +11,13 @@ use borrow.Author.Tests.{ltb-true, ltb-false, eqb-true, not-false}
 use Rattle.refusal.specs.Limits.{mostAtoms, mostNodes, mostRoots}
 use Rattle.refusal.specs.Table.{none}
 use Rattle.refusal.proofs.Table.{none-at, none-split}
-use Rattle.refusal.proofs.First.{firstSuch-none}
-use Rattle.logic.proofs.Bools.{&&-split, ||-split}
+use Rattle.refusal.proofs.First.{first-none}
+use Rattle.logic.proofs.Bools.{&&-join, ||-split}
 use Rattle.wire.specs.Sequence.{upTo}
 use Rattle.wire.proofs.Laws.{allBelow-each}
 use Rattle.wire.proofs.Sequence.{length-upTo, getD-upTo}
-use Rattle.theory.specs.Book.{Node, WellFormed, fits}
-use Rattle.theory.specs.Image.{atomCount, nodeCount, rootCount, imageLength, nodeSection, rootSection, nodeIn, nodeKeeps, rootIn, bookOf}
+use Rattle.theory.specs.Book.{Node, WellFormed, leftFits, rightFits, fits}
+use Rattle.theory.specs.Image.{atomCount, nodeCount, rootCount, imageLength, nodeSection, rootSection, nodeIn, isWrong, breaks, rootIn, bookOf}
 use Rattle.theory.specs.Rows.{row6, row7, headerRows, theoryRows}
 use Rattle.theory.proofs.Books.{allFit-each}
 
@@ -32,12 +32,19 @@ pub record Header (t : List ℕ) : Type 0 where
 -- What all rows leave.
 pub record Accepted (t : List ℕ) : Type 0 where
   pub header : Header t
-  pub nodes-keep : (k : ℕ) → k < nodeCount t → nodeKeeps (atomCount t) (nodeSection t) k ≡ true
+  pub nodes-keep : (k : ℕ) → k < nodeCount t → breaks (atomCount t) (nodeSection t) k ≡ false
   pub roots-below : (i : ℕ) → i < rootCount t → rootIn (rootSection t) i < nodeCount t
 
--- A node that keeps to its row fits.
-pub keeps-fits : (A : ℕ) (s : List ℕ) (k : ℕ) → nodeKeeps A s k ≡ true → fits A k (nodeIn s k) ≡ true
-keeps-fits A s k h = &&-split (eqb (getD s (k * 6 + 1) 0) 0) _ (&&-split (ltb (getD s (k * 6) 0) 7) _ h .1) .1
+-- A node that keeps its row, so that none of its fields is wrong: its kind is known, and it fits.
+module _ (A : ℕ) (s : List ℕ) (k : ℕ) (kept : breaks A s k ≡ false) where
+  right : (f : ℕ) → f < 4 → isWrong A s k f ≡ false
+  right = first-none (isWrong A s k) 4 .0 kept
+
+  pub kept-known : getD s (k * 6) 0 < 7
+  kept-known = omega (arith, ltb-false 6 (getD s (k * 6) 0) (right 0 (omega arith)))
+
+  pub kept-fits : fits A k (nodeIn s k) ≡ true
+  kept-fits = &&-join (not-false (leftFits A k (nodeIn s k)) (right 2 (omega arith))) (not-false (rightFits k (nodeIn s k)) (right 3 (omega arith)))
 
 pub header-accepted : (t : List ℕ) → none (headerRows t) ≡ true → Header t
 unfolding headerRows
@@ -60,8 +67,8 @@ accepted t h =
     let clear = none-at (row6 t ∷ row7 t ∷ []) (parts .1) in
     record {
       header = header-accepted t (parts .0);
-      nodes-keep = λ k l. not-false _ (firstSuch-none 6 _ _ .0 (clear 0) k l);
-      roots-below = λ i l. ltb-true _ _ (not-false _ (firstSuch-none 7 _ _ .0 (clear 1) i l));
+      nodes-keep = first-none _ _ .0 (clear 0);
+      roots-below = λ i l. ltb-true _ _ (not-false _ (first-none _ _ .0 (clear 1) i l));
     }
 
 pub accepted-wellFormed : (t : List ℕ) → none (theoryRows t) ≡ true → WellFormed (bookOf t)
@@ -75,7 +82,7 @@ accepted-wellFormed t h =
     record {
       nodes-fit = allFit-each (atomCount t) 0 ns
           (λ k l. let b : k < N = omega arith in
-          rw (zero-add k, getD-upTo (nodeIn (nodeSection t)) N k _ b) (keeps-fits (atomCount t) (nodeSection t) k (a .nodes-keep k b)));
+          rw (zero-add k, getD-upTo (nodeIn (nodeSection t)) N k _ b) (kept-fits (atomCount t) (nodeSection t) k (a .nodes-keep k b)));
       roots-below = allBelow-each (length ns) rs
           (λ i l. let b : i < rootCount t = omega (arith, length-upTo (rootIn (rootSection t)) (rootCount t)) in
           rw (counted, getD-upTo (rootIn (rootSection t)) (rootCount t) i 0 b) (a .roots-below i b));

@@ -5,7 +5,6 @@ use mathlib.Core.List.{List, [], _∷_, _++_}
 use Prim.Native.Nat.{ℕ, zero, suc, _+_, _<_}
 use native.Mathlib.Nat.{add-zero}
 use native.Mathlib.Omega.{arith}
-use lib.Dec.{ltb}
 use lib.ListN.{length, take, drop, length-append, List·getD-append}
 use lib.Seq.{getD-append-seam}
 use borrow.Author.Tests.{ltb-true}
@@ -13,14 +12,14 @@ use Rattle.logic.specs.Formula.{Formula, falsum}
 use Rattle.logic.proofs.Bools.{&&-split, &&-join}
 use Rattle.wire.specs.Sequence.{upTo}
 use Rattle.wire.proofs.Sequence.{upTo-more}
-use Rattle.theory.specs.Book.{Node, nodeAt, leftLimit, rightLimit, fits, allFit, formulaAt, formula, formulas}
+use Rattle.theory.specs.Book.{Node, nodeAt, leftLimit, rightLimit, leftFits, rightFits, fits, allFit, formulaAt, formula, formulas}
 
 -- Left and right of a node that fits are below their limits.
 pub fits-left : (A k : ℕ) (n : Node) → fits A k n ≡ true → n .left < leftLimit A k (n .kind)
-fits-left A k n h = ltb-true _ _ (&&-split (ltb (n .left) (leftLimit A k (n .kind))) (ltb (n .right) (rightLimit k (n .kind))) h .0)
+fits-left A k n h = ltb-true _ _ (&&-split (leftFits A k n) (rightFits k n) h .0)
 
 pub fits-right : (A k : ℕ) (n : Node) → fits A k n ≡ true → n .right < rightLimit k (n .kind)
-fits-right A k n h = ltb-true _ _ (&&-split (ltb (n .left) (leftLimit A k (n .kind))) (ltb (n .right) (rightLimit k (n .kind))) h .1)
+fits-right A k n h = ltb-true _ _ (&&-split (leftFits A k n) (rightFits k n) h .1)
 
 -- Each node of a list keeps to its row where all do.
 pub allFit-at : (A i : ℕ) (ns : List Node) → allFit A i ns ≡ true → (k : ℕ) → k < length ns → fits A (i + k) (nodeAt ns k) ≡ true

@@ -10,7 +10,7 @@ use lib.Dec.{eqb}
 use lib.ListN.{length, getD, drop, length-map, List·getD-append, List·getD-map}
 use borrow.Author.Tests.{ltb-false, eqb-true, eq-eqb, not-false}
 use Rattle.refusal.specs.First.{first}
-use Rattle.refusal.proofs.First.{first-le, first-before, firstSuch-none}
+use Rattle.refusal.proofs.First.{first-le, first-before, first-none}
 use Rattle.logic.specs.declared.Value.{Value}
 use Rattle.logic.specs.declared.Value.the-variants.{Neither, There, Both}
 use Rattle.logic.specs.Value.{number, trueHere}
@@ -54,7 +54,7 @@ satisfies-first : (I : Reading) (f : ℕ → Formula) (test : ℕ → Bool) (n :
 satisfies-first I f test n same = iff-equal _ _ (
   λ h. let e = eqb-true (first test n) n h in
       satisfies-upTo I f n .1 (λ i l. not-false _ (sym (same i l) ∙ first-before test n i (omega arith))),
-  λ h. let clear = firstSuch-none 0 test n .1 (λ i l. same i l ∙ ap not (satisfies-upTo I f n .0 h i l)) in
+  λ h. let clear = first-none test n .1 (λ i l. same i l ∙ ap not (satisfies-upTo I f n .0 h i l)) in
       eq-eqb (first test n) n (omega (arith, first-le test n, ltb-false (first test n) n clear)),
 )
 

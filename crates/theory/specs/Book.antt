@@ -48,9 +48,17 @@ rightLimit k andKind = k
 rightLimit k orKind = k
 rightLimit k impliesKind = k
 
--- Node k keeps to its kind's row.
+-- Left of node k is one that its kind's row allows,
+abbrev pub leftFits : (A k : ℕ) → Node → Bool
+leftFits A k n = ltb (n .left) (leftLimit A k (n .kind))
+
+-- so is right,
+abbrev pub rightFits : (k : ℕ) → Node → Bool
+rightFits k n = ltb (n .right) (rightLimit k (n .kind))
+
+-- and so are both: node k keeps to its kind's row.
 abbrev pub fits : (A k : ℕ) → Node → Bool
-fits A k n = ltb (n .left) (leftLimit A k (n .kind)) && ltb (n .right) (rightLimit k (n .kind))
+fits A k n = leftFits A k n && rightFits k n
 
 -- So do all nodes, numbered from k on.
 abbrev pub allFit : (A k : ℕ) → List Node → Bool

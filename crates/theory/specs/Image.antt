@@ -1,12 +1,13 @@
 -- The theory image: where its numbers stand, and the book that it is.
-use mathlib.Core.Bool.{Bool, cond, _&&_}
-use mathlib.Core.List.{List}
+use mathlib.Core.Bool.{Bool, false, cond, not}
+use mathlib.Core.List.{List, [], _∷_}
 use Prim.Native.Nat.{ℕ, _+_, _*_}
 use lib.Dec.{eqb, ltb}
 use lib.ListN.{getD, drop}
+use Rattle.refusal.specs.First.{first}
 use Rattle.wire.specs.Wire.{u16At}
 use Rattle.wire.specs.Sequence.{upTo}
-use Rattle.theory.specs.Book.{Kind, falseKind, trueKind, atomKind, notKind, andKind, orKind, impliesKind, Node, Book, fits}
+use Rattle.theory.specs.Book.{Kind, falseKind, trueKind, atomKind, notKind, andKind, orKind, impliesKind, Node, Book, leftFits, rightFits}
 
 -- A, N and R of the header.
 abbrev pub atomCount : List ℕ → ℕ
@@ -46,9 +47,30 @@ kindOf byte =
 abbrev pub nodeIn : List ℕ → ℕ → Node
 nodeIn s k = record { kind = kindOf (getD s (k * 6) 0); left = u16At s (k * 6 + 2); right = u16At s (k * 6 + 4) }
 
--- Node k has a kind, a zero byte that is 0, and keeps to its kind's row.
-abbrev pub nodeKeeps : (A : ℕ) → List ℕ → ℕ → Bool
-nodeKeeps A s k = ltb (getD s (k * 6) 0) 7 && (eqb (getD s (k * 6 + 1) 0) 0 && fits A k (nodeIn s k))
+-- The four fields of node k in their order, each with whether it is wrong: a kind over 6, a zero byte that is not 0, a left and a right that the kind's row does not allow.
+abbrev pub wrongFields : (A : ℕ) → List ℕ → (k : ℕ) → List Bool
+wrongFields A s k =
+    ltb 6 (getD s (k * 6) 0)
+    ∷ not (eqb (getD s (k * 6 + 1) 0) 0)
+    ∷ not (leftFits A k (nodeIn s k))
+    ∷ not (rightFits k (nodeIn s k))
+    ∷ []
+
+-- Field f of node k is wrong.
+abbrev pub isWrong : (A : ℕ) → List ℕ → (k f : ℕ) → Bool
+isWrong A s k f = getD (wrongFields A s k) f false
+
+-- The first field of node k that is wrong, and 4 where none is.
+abbrev pub wrongField : (A : ℕ) → List ℕ → (k : ℕ) → ℕ
+wrongField A s k = first (isWrong A s k) 4
+
+-- Where it stands among the fields of all nodes, eight numbers to a node.
+abbrev pub wrongPlace : (A : ℕ) → List ℕ → (k : ℕ) → ℕ
+wrongPlace A s k = k * 8 + wrongField A s k
+
+-- Node k breaks its row: one of its fields is wrong.
+abbrev pub breaks : (A : ℕ) → List ℕ → (k : ℕ) → Bool
+breaks A s k = ltb (wrongField A s k) 4
 
 -- Root i of the roots' section.
 abbrev pub rootIn : List ℕ → ℕ → ℕ

@@ -5,10 +5,10 @@ use Prim.Native.Nat.{ℕ}
 use lib.Dec.{eqb, ltb}
 use lib.ListN.{length}
 use Rattle.refusal.specs.Table.{Row}
-use Rattle.refusal.specs.First.{firstSuch}
+use Rattle.refusal.specs.First.{firstPlaced, firstSuch}
 use Rattle.refusal.specs.Limits.{mostAtoms, mostNodes, mostRoots}
 use Rattle.wire.specs.Wire.{u16At, u32At}
-use Rattle.theory.specs.Image.{atomCount, nodeCount, rootCount, rootsStart, imageLength, nodeSection, rootSection, nodeKeeps, rootIn}
+use Rattle.theory.specs.Image.{atomCount, nodeCount, rootCount, rootsStart, imageLength, nodeSection, rootSection, wrongPlace, breaks, rootIn}
 
 -- Row 1: the theory is shorter than 16 bytes.
 abbrev pub row1 : List ℕ → Row
@@ -38,9 +38,9 @@ row5 t = record {
   place = imageLength (nodeCount t) (rootCount t);
 }
 
--- Row 6: a node breaks its row, or its zero byte is not 0; its place is the first such node.
+-- Row 6: a node breaks its row, or its zero byte is not 0; its place is eight times the first such node plus its first wrong field.
 abbrev pub row6 : List ℕ → Row
-row6 t = firstSuch 6 (λ k. not (nodeKeeps (atomCount t) (nodeSection t) k)) (nodeCount t)
+row6 t = firstPlaced 6 (wrongPlace (atomCount t) (nodeSection t)) (breaks (atomCount t) (nodeSection t)) (nodeCount t)
 
 -- Row 7: a root is not below N; its place is the first such root's index.
 abbrev pub row7 : List ℕ → Row

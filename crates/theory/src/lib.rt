@@ -14,7 +14,7 @@ ghost use Rattle.logic.specs.Value.{number};
 ghost use Rattle.logic.specs.Formula.{readingOf, valueOf, satisfies};
 ghost use Rattle.wire.specs.Wire.{u32At, over};
 ghost use Rattle.theory.specs.Book.{leftLimit, rightLimit, fits, bookFormulas};
-ghost use Rattle.theory.specs.Image.{atomCount, nodeCount, rootCount, rootsStart, kindOf, nodeIn, nodeKeeps, rootIn, bookOf};
+ghost use Rattle.theory.specs.Image.{atomCount, nodeCount, rootCount, rootsStart, kindOf, nodeIn, wrongField, breaks, rootIn, bookOf};
 ghost use Rattle.theory.specs.Rows.{headerRows, theoryRows};
 ghost use Rattle.theory.specs.NodeValues.{valueFrom, valuesTo, nodeValues};
 
@@ -114,33 +114,36 @@ fn right_limit(kind: u8, k: usize) -> usize
     }
 }
 
-// Whether node k has a kind and a zero byte, and keeps to its kind's row.
-fn keeps(nodes: &[u8], k: usize, atoms: usize) -> bool
+// The first field of node k that is wrong, and 4 where none is: kind, zero byte, left, right.
+fn wrong_field(nodes: &[u8], k: usize, atoms: usize) -> usize
     requires { ⌜ k * 6 + 6 ≤ length (now nodes) ⌝ }
-    ensures { λ r. ⌜ r ≡ nodeKeeps atoms (now (nodes .entry)) k ⌝ }
+    ensures { λ r. ⌜ r ≡ wrongField atoms (now (nodes .entry)) k ⌝ }
 {
     let i = k * 6;
     let kind = nodes[i];
-    if 7 <= kind {
-        return false;
+    if 6 < kind {
+        return 0;
     }
     if nodes[i + 1] != 0 {
-        return false;
+        return 1;
     }
     if left_limit(kind, atoms, k) <= wire::u16_at(nodes, i + 2) {
-        return false;
+        return 2;
     }
-    wire::u16_at(nodes, i + 4) < right_limit(kind, k)
+    if right_limit(kind, k) <= wire::u16_at(nodes, i + 4) {
+        return 3;
+    }
+    4
 }
 
-// The first node that does not keep to its row, and the count where each does.
+// The first node that breaks its row, and the count where none does.
 fn first_broken_node(nodes: &[u8], atoms: usize, count: usize) -> usize
     requires { ⌜ count * 6 ≤ length (now nodes) ⌝ }
-    ensures { λ r. ⌜ r ≡ first (λ k. not (nodeKeeps atoms (now (nodes .entry)) k)) count ⌝ }
+    ensures { λ r. ⌜ r ≡ first (breaks atoms (now (nodes .entry))) count ⌝ }
 {
     let mut k = 0;
     while k < count {
-        if !keeps(nodes, k, atoms) {
+        if wrong_field(nodes, k, atoms) < 4 {
             return k;
         }
         k += 1;
@@ -174,7 +177,10 @@ pub fn check(theory: &[u8]) -> Answer
     let node_count = nodes(theory);
     let node = first_broken_node(&theory[16..], atoms(theory), node_count);
     if node < node_count {
-        return refusal::refuse(6, node);
+        return refusal::refuse(
+            6,
+            node * 8 + wrong_field(&theory[16..], node, atoms(theory)),
+        );
     }
     let start = roots_start(theory);
     let root_count = roots(theory);

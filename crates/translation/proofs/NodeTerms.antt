@@ -7,16 +7,15 @@ use Prim.Native.Nat.{ℕ, zero, suc, _+_, _*_, _≤_, _<_}
 use native.Mathlib.Decide.{le-ind}
 use native.Mathlib.Numerals.{add-one}
 use native.Mathlib.Omega.{arith}
-use lib.Dec.{eqb, ltb}
 use lib.ListN.{getD, length, length-map, List·getD-append, List·getD-map}
 use lib.Seq.{getD-take}
-use borrow.Author.Tests.{ltb-true}
 use Rattle.refusal.specs.Limits.{mostAtoms, mostNodes, mostB}
-use Rattle.logic.proofs.Bools.{&&-split}
 use Rattle.wire.specs.Sequence.{upTo}
 use Rattle.wire.proofs.Sequence.{length-upTo}
 use Rattle.theory.specs.Book.{Kind, falseKind, trueKind, atomKind, notKind, andKind, orKind, impliesKind, leftLimit, rightLimit}
 use Rattle.theory.specs.Image.{nodeIn}
+use Rattle.theory.proofs.Books.{fits-left, fits-right}
+use Rattle.theory.proofs.Accepted.{kept-known, kept-fits}
 use Rattle.flat.specs.Table.{Slot, x, y, L, M, rows, labelCount}
 use Rattle.flat.specs.Flat.{Term, constant, name, fill, instances, termAt, nodeRules, termOf, term}
 use Rattle.flat.proofs.ByKind.{labelCount-le, operands}
@@ -75,13 +74,12 @@ pub record Known (A : ℕ) (s : List ℕ) (k : ℕ) (index : List (List ℕ)) (k
 
 module _ (A : ℕ) (s : List ℕ) (N : ℕ) (ok : Nodes A s N) where
   pub kind-known : (k : ℕ) → k < N → getD s (k * 6) 0 < 7
-  kind-known k h = ltb-true _ _ (&&-split (ltb (getD s (k * 6) 0) 7) _ (ok .keep k h) .0)
+  kind-known k h = kept-known A s k (ok .keep k h)
 
   pub node-fits : (k : ℕ) → k < N → (nodeIn s k .left < leftLimit A k (nodeIn s k .kind)) × (nodeIn s k .right < rightLimit k (nodeIn s k .kind))
   node-fits k h =
-      let rest = &&-split (ltb (getD s (k * 6) 0) 7) _ (ok .keep k h) .1 in
-      let fit = &&-split (ltb (nodeIn s k .left) _) _ (&&-split (eqb (getD s (k * 6 + 1) 0) 0) _ rest .1) in
-      (ltb-true _ _ (fit .0), ltb-true _ _ (fit .1))
+      let fit = kept-fits A s k (ok .keep k h) in
+      (fits-left A k (nodeIn s k) fit, fits-right A k (nodeIn s k) fit)
 
   -- Operands are below the scratch's length.
   pub operands-small : (k : ℕ) → k < N → (nodeIn s k .left < mostNodes) × (nodeIn s k .right < mostNodes)

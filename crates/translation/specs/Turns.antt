@@ -1,6 +1,6 @@
 -- What the loops over an image's nodes and roots have after so many turns: notes on the code, which no public promise names.
 use mathlib.Core.Path.{_≡_}
-use mathlib.Core.Bool.{true}
+use mathlib.Core.Bool.{false}
 use mathlib.Core.List.{List, [], _∷_, _++_, map}
 use Prim.Native.Nat.{ℕ, zero, suc, _+_, _*_, _≤_, _<_}
 use lib.ListN.{length, getD, take}
@@ -8,7 +8,7 @@ use Rattle.refusal.specs.Limits.{mostAtoms, mostNodes, mostRoots}
 use Rattle.wire.specs.Sequence.{upTo}
 use Rattle.logic.specs.Value.{number, ofByte, negation}
 use Rattle.theory.specs.Book.{Node}
-use Rattle.theory.specs.Image.{atomCount, nodeCount, nodeSection, kindOf, nodeIn, nodeKeeps, rootIn}
+use Rattle.theory.specs.Image.{atomCount, nodeCount, nodeSection, kindOf, nodeIn, breaks, rootIn}
 use Rattle.program.specs.Rule.{Rule}
 use Rattle.flat.specs.Table.{rows, labelCount}
 use Rattle.flat.specs.Flat.{Term, term, instances, nodeRules, fact, simplify, labelTotal}
@@ -20,7 +20,7 @@ pub record Nodes (A : ℕ) (s : List ℕ) (N : ℕ) : Type 0 where
   pub few-atoms : A ≤ mostAtoms
   pub few : N ≤ mostNodes
   pub long : N * 6 ≤ length s
-  pub keep : (k : ℕ) → k < N → nodeKeeps A s k ≡ true
+  pub keep : (k : ℕ) → k < N → breaks A s k ≡ false
 
 -- The roots' section of one with N nodes and R roots.
 pub record Roots (N : ℕ) (s : List ℕ) (R : ℕ) : Type 0 where

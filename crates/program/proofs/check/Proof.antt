@@ -8,7 +8,7 @@ use lib.ListN.{drop, length-drop}
 use denote.Ref.{now}
 use borrow.Author.Tests.{lt-ltb, le-ltb, eq-eqb, ne-eqb, eqb-true, not-false}
 use Rattle.refusal.proofs.Table.{Reached, reached-first, reached-next, reached-refused, reached-accepted}
-use Rattle.refusal.proofs.First.{firstSuch-refused, firstSuch-next}
+use Rattle.refusal.proofs.First.{first-refused, first-next}
 use Rattle.program.specs.Image.{ruleCount, headerLength, imageLength}
 use Rattle.program.specs.Rows.{row22, row26, programRows}
 use Rattle.wire.proofs.Laws.{part-from}
@@ -177,7 +177,7 @@ unfolding programRows
 returns-6 c =
     let scan = c .before .before in
     let past = scan .before .before in
-    firstSuch-refused 26 _ _ _ (broken scan) (past25 past) (rw (count (past .before .before .before .before .before .before)) at (c .before .if7 .taken)) (c .refuse6 .ensures)
+    first-refused 26 (λ k. k) _ _ _ (broken scan) (past25 past) (rw (count (past .before .before .before .before .before .before)) at (c .before .if7 .taken)) (c .refuse6 .ensures)
 
 accept-requires : tie.Need-accept-requires
 accept-requires c κs = search needs
@@ -187,7 +187,7 @@ unfolding programRows
 returns-7 c =
     let scan = c .before .before in
     let past = scan .before .before in
-    reached-accepted (firstSuch-next 26 _ _ _ (broken scan) (past25 past) (rw (count (past .before .before .before .before .before .before)) at (c .before .if7 .left))) (c .accept .ensures)
+    reached-accepted (first-next 26 (λ k. k) _ _ _ (broken scan) (past25 past) (rw (count (past .before .before .before .before .before .before)) at (c .before .if7 .left))) (c .accept .ensures)
 
 pub check-spec : {M : Type 1} → statement M
 check-spec =

@@ -9,7 +9,7 @@ use borrow.Author.Tests.{eq-eqb, ne-eqb}
 use Rattle.refusal.specs.Table.{Row}
 use Rattle.refusal.specs.Rows.{row10, argumentRows}
 use Rattle.refusal.proofs.Table.{Reached, reached-first, reached-next, reached-refused, reached-accepted}
-use Rattle.refusal.proofs.First.{first-here, first-on, first-end, firstSuch-refused, firstSuch-next}
+use Rattle.refusal.proofs.First.{first-here, first-on, first-end, first-refused, first-next}
 use Rattle.refusal.proofs.argument.Statement.{statement}
 use Rattle.refusal.proofs.argument.Tie as tie
 
@@ -52,7 +52,7 @@ returns-2 c =
     let turn = c .before .before .before .before in
     let loop = turn .before in
     let found = sym (c .before .before .is-wrong .ensures) ∙ c .before .if2 .taken in
-    firstSuch-refused 10 _ _ _ (first-here _ _ _ (loop .loop .inv) found) (past9 loop) (turn .loop-test .taken) (c .refuse2 .ensures)
+    first-refused 10 (λ k. k) _ _ _ (first-here _ _ _ (loop .loop .inv) found) (past9 loop) (turn .loop-test .taken) (c .refuse2 .ensures)
 
 add-place : tie.Need-add-place Inv-loop μ-loop
 add-place c = search needs
@@ -72,7 +72,7 @@ returns-3 : tie.Need-returns-3 Inv-loop μ-loop
 returns-3 c =
     let loop = c .before .before in
     let ended = c .before .loop-test .left in
-    reached-accepted (firstSuch-next 10 _ _ _ (first-end _ _ _ (loop .loop .inv) ended) (past9 loop) ended) (c .accept .ensures)
+    reached-accepted (first-next 10 (λ k. k) _ _ _ (first-end _ _ _ (loop .loop .inv) ended) (past9 loop) ended) (c .accept .ensures)
 
 pub argument-spec : {M : Type 1} → statement M
 argument-spec =

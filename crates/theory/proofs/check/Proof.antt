@@ -8,11 +8,12 @@ use lib.ListN.{length-drop}
 use denote.Ref.{now}
 use borrow.Author.Needs.{needs}
 use Rattle.refusal.specs.Table.{none}
+use Rattle.refusal.specs.First.{first}
 use Rattle.refusal.proofs.Table.{answer-refused, none-accepted, Reached, reached-past, reached-accepted}
-use Rattle.theory.specs.Image.{nodeCount, rootCount, rootsStart}
+use Rattle.theory.specs.Image.{atomCount, nodeCount, rootCount, rootsStart, nodeSection, isWrong, wrongField, wrongPlace, breaks}
 use Rattle.theory.specs.Rows.{row6, row7, headerRows, theoryRows}
 use Rattle.wire.proofs.Laws.{part-from}
-use Rattle.refusal.proofs.First.{firstSuch-refused, firstSuch-next}
+use Rattle.refusal.proofs.First.{first-le, first-refused, first-next}
 use Rattle.theory.proofs.Rows.{numbered-headerRows}
 use Rattle.theory.proofs.Accepted.{Header, header-accepted}
 use Rattle.theory.proofs.check.Statement.{statement}
@@ -34,14 +35,21 @@ past c = reached-past (headerRows (image c)) _ 1 (clear c)
 is-header : (c : tie.Else1) → Header (image c)
 is-header c = header-accepted (image c) (clear c)
 
--- each place found is its row's place
+-- the node found is the first that breaks its row
 nodes-are : (c : tie.After-first-broken-node) → c .before .before .before .nodes .result ≡ nodeCount (image (c .before .before .before .before))
 nodes-are c = c .before .before .before .nodes .ensures .0
 
-node-is : (c : tie.After-first-broken-node) → c .first-broken-node .result ≡ row6 (image (c .before .before .before .before)) .place
+node-is : (c : tie.After-first-broken-node) → let t = image (c .before .before .before .before) in c .first-broken-node .result ≡ first (breaks (atomCount t) (nodeSection t)) (nodeCount t)
 node-is c =
     let t = image (c .before .before .before .before) in
     rw (← c .before .atoms .ensures .0, ← nodes-are c, ← part-from 16 t) (c .first-broken-node .ensures)
+
+-- and the field is the first of its fields that is wrong
+field-is : (c : tie.After-wrong-field) → let node = c .before .before .before .before in let t = image (node .before .before .before .before) in
+    c .wrong-field .result ≡ wrongField (atomCount t) (nodeSection t) (node .first-broken-node .result)
+field-is c =
+    let t = image (c .before .before .before .before .before .before .before .before) in
+    rw (← c .before .atoms2 .ensures .0, ← part-from 16 t) (c .wrong-field .ensures)
 
 abbrev to-node : tie.Else2 → tie.After-first-broken-node
 to-node c = c .before
@@ -50,7 +58,9 @@ abbrev to-header : tie.Else2 → tie.Else1
 to-header c = c .before .before .before .before .before
 
 past6 : (c : tie.Else2) → Reached (theoryRows (image (to-header c))) 1 (row7 (image (to-header c)) ∷ [])
-past6 c = firstSuch-next 6 _ _ _ (node-is (to-node c)) (past (to-header c)) (rw (nodes-are (to-node c)) at (c .if2 .left))
+past6 c =
+    let t = image (to-header c) in
+    first-next 6 (wrongPlace (atomCount t) (nodeSection t)) _ _ _ (node-is (to-node c)) (past (to-header c)) (rw (nodes-are (to-node c)) at (c .if2 .left))
 
 roots-are : (c : tie.After-first-root-not-below) → c .before .before .roots .result ≡ rootCount (image (to-header (c .before .before .before .before)))
 roots-are c = c .before .before .roots .ensures .0
@@ -58,6 +68,7 @@ roots-are c = c .before .before .roots .ensures .0
 start-is : (c : tie.After-first-root-not-below) → c .before .before .before .roots-start .result ≡ rootsStart (nodeCount (image (to-header (c .before .before .before .before))))
 start-is c = c .before .before .before .roots-start .ensures .0
 
+-- the root found is its row's place
 root-is : (c : tie.After-first-root-not-below) → c .first-root-not-below .result ≡ row7 (image (to-header (c .before .before .before .before))) .place
 root-is c =
     let t = image (to-header (c .before .before .before .before)) in
@@ -90,13 +101,42 @@ first-broken-node-requires c κs =
     let head = is-header (c .before .before .before) in
     rw (part-from, length-drop) (omega (arith, head))
 
+mul-refuse : tie.Need-mul-refuse
+mul-refuse c = omega (arith, c .if2 .taken, c .before .before .before .before .nodes .ensures .1)
+
+sub-wrong-field : tie.Need-sub-wrong-field
+sub-wrong-field c = is-header (c .before .before .before .before .before) .long
+
+part-wrong-field-start : tie.Need-part-wrong-field-start
+part-wrong-field-start c = is-header (c .before .before .before .before .before) .long
+
+part-wrong-field-end : tie.Need-part-wrong-field-end
+part-wrong-field-end c = search needs
+
+atoms-requires-2 : tie.Need-atoms-requires-2
+atoms-requires-2 c κs = is-header (c .before .before .before .before .before .before) .long
+
+wrong-field-requires : tie.Need-wrong-field-requires
+wrong-field-requires c κs =
+    let head = is-header (c .before .before .before .before .before .before .before) in
+    rw (part-from, length-drop) (omega (arith, head))
+
+add-refuse : tie.Need-add-refuse
+add-refuse c =
+    let t = image (c .before .before .before .before .before .before .before .before) in
+    let node = c .before .before .before in
+    omega (arith, node .if2 .taken, node .before .before .before .before .nodes .ensures .1, field-is c, first-le (isWrong (atomCount t) (nodeSection t) (node .before .first-broken-node .result)) 4)
+
 refuse-requires : tie.Need-refuse-requires
 refuse-requires c κs = search needs
 
 returns-2 : tie.Need-returns-2
 returns-2 c =
-    let found = c .before .before in
-    firstSuch-refused 6 _ _ _ (node-is found) (past (found .before .before .before .before)) (rw (nodes-are found) at (c .before .if2 .taken)) (c .refuse .ensures)
+    let found = c .before .before .before .before .before in
+    let t = image (found .before .before .before .before) in
+    first-refused 6 (wrongPlace (atomCount t) (nodeSection t)) _ _ _ (node-is found) (past (found .before .before .before .before))
+    (rw (nodes-are found) at (c .before .before .before .before .if2 .taken))
+    (rw (← field-is (c .before)) (c .refuse .ensures))
 
 roots-start-requires : tie.Need-roots-start-requires
 roots-start-requires c κs = is-header (to-header c) .long
@@ -124,7 +164,7 @@ refuse-requires-2 c κs = search needs
 returns-3 : tie.Need-returns-3
 returns-3 c =
     let found = c .before .before in
-    firstSuch-refused 7 _ _ _ (root-is found) (past6 (found .before .before .before .before)) (rw (roots-are found) at (c .before .if3 .taken)) (c .refuse2 .ensures)
+    first-refused 7 (λ k. k) _ _ _ (root-is found) (past6 (found .before .before .before .before)) (rw (roots-are found) at (c .before .if3 .taken)) (c .refuse2 .ensures)
 
 accept-requires : tie.Need-accept-requires
 accept-requires c κs = search needs
@@ -132,7 +172,7 @@ accept-requires c κs = search needs
 returns-4 : tie.Need-returns-4
 returns-4 c =
     let found = c .before .before in
-    reached-accepted (firstSuch-next 7 _ _ _ (root-is found) (past6 (found .before .before .before .before)) (rw (roots-are found) at (c .before .if3 .left))) (c .accept .ensures)
+    reached-accepted (first-next 7 (λ k. k) _ _ _ (root-is found) (past6 (found .before .before .before .before)) (rw (roots-are found) at (c .before .if3 .left))) (c .accept .ensures)
 
 pub check-spec : {M : Type 1} → statement M
 check-spec =
@@ -146,6 +186,13 @@ check-spec =
     part-first-broken-node-end
     atoms-requires
     first-broken-node-requires
+    mul-refuse
+    sub-wrong-field
+    part-wrong-field-start
+    part-wrong-field-end
+    atoms-requires-2
+    wrong-field-requires
+    add-refuse
     refuse-requires
     returns-2
     roots-start-requires

@@ -5,7 +5,7 @@ use denote.Ref.{now}
 use borrow.Author.Needs.{needs}
 use Rattle.theory.specs.Image.{atomCount, nodeSection}
 use Rattle.wire.proofs.Laws.{part-from}
-use Rattle.theory.proofs.Accepted.{Accepted, accepted, keeps-fits}
+use Rattle.theory.proofs.Accepted.{Accepted, accepted, kept-fits}
 use Rattle.theory.proofs.NodeValues.{nodeValues-bookOf}
 use Rattle.theory.proofs.values.Statement.{statement}
 use Rattle.theory.proofs.values.Tie as tie
@@ -32,7 +32,7 @@ write-values-requires c κs =
     let a = is-accepted start in
     let count = c .before .before .nodes .ensures .0 in (
       (rw (part-from, length-drop) (omega (arith, a .header)), omega (arith, start .pre .1 .1)),
-      λ k l. rw (part-from, start .pre .1 .0) (keeps-fits (atomCount t) (nodeSection t) k (a .nodes-keep k (omega arith))),
+      λ k l. rw (part-from, start .pre .1 .0) (kept-fits (atomCount t) (nodeSection t) k (a .nodes-keep k (omega arith))),
     )
 
 same-length : tie.Need-same-length
