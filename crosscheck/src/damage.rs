@@ -19,6 +19,12 @@ fn at_least(random: &mut Random, low: usize) -> usize {
     }
 }
 
+/// A byte that is at least `low`, often just that.
+fn byte(random: &mut Random, low: usize) -> u8 {
+    let high = random.pick(&[low, 255]);
+    random.within(low, high) as u8
+}
+
 /// Bytes 6 and 7, rows 3 and 23.
 fn reserved(random: &mut Random, image: &mut [u8]) {
     let at = random.within(6, 7);
@@ -74,9 +80,9 @@ pub fn theory(random: &mut Random, image: &mut Vec<u8>, row: u32) -> usize {
         4 => field(random, image),
         5 => return length(random, image),
         6 => {
-            let own = random.below(nodes);
-            node(random, image, own);
-            return own;
+            let (own, kind) = (random.below(nodes), random.below(7));
+            let wrong = 1 << random.below(4) | 1 << random.below(4);
+            return node(random, image, own, kind, wrong);
         }
         7 => {
             let own = random.below(roots);
@@ -88,32 +94,31 @@ pub fn theory(random: &mut Random, image: &mut Vec<u8>, row: u32) -> usize {
     0
 }
 
-/// Breaks the node `own` in one of the ways in which a node can be wrong.
-fn node(random: &mut Random, image: &mut [u8], own: usize) {
-    let atoms = get2(image, 0);
-    let earlier = if own > 0 { random.below(own) } else { 0 };
-    let atom = if atoms > 0 { random.below(atoms) } else { 0 };
-    let constant = random.below(2);
-    let binary = random.within(4, 6);
-    let some = random.within(1, 65535);
-    let (kind, left, right) = match random.below(10) {
-        0 => (random.within(7, 255), earlier, earlier),
-        1 => {
-            image[16 + 6 * own + 1] = random.within(1, 255) as u8;
-            return;
+/// How many numbers, from 0 up, the left and the right of a node can be.
+fn operands(kind: usize, own: usize, atoms: usize) -> [usize; 2] {
+    match kind {
+        0 | 1 => [1, 1],
+        2 => [atoms, 1],
+        3 => [own, 1],
+        _ => [own, own],
+    }
+}
+
+/// Makes the node `own` one of kind `kind` with wrong fields, whatever it was before. Bit 0 of `wrong` stands for the
+/// kind, bit 1 for the zero byte, bit 2 for left and bit 3 for right; a field that cannot be right is wrong anyway.
+pub fn node(random: &mut Random, image: &mut [u8], own: usize, kind: usize, mut wrong: usize) -> usize {
+    let at = 16 + 6 * own;
+    image[at] = if wrong & 1 != 0 { byte(random, 7) } else { kind as u8 };
+    image[at + 1] = if wrong & 2 != 0 { byte(random, 1) } else { 0 };
+    for (side, count) in operands(kind, own, get2(image, 0)).into_iter().enumerate() {
+        let bit = 4 << side;
+        if count == 0 {
+            wrong |= bit;
         }
-        2 => (constant, some, 0),
-        3 => (constant, 0, some),
-        4 => (2, at_least(random, atoms), 0),
-        5 => (2, atom, some),
-        6 => (3, at_least(random, own), 0),
-        7 => (3, earlier, some),
-        8 => (binary, at_least(random, own), earlier),
-        _ => (binary, earlier, at_least(random, own)),
-    };
-    image[16 + 6 * own] = kind as u8;
-    set2(image, 16 + 6 * own + 2, left);
-    set2(image, 16 + 6 * own + 4, right);
+        let number = if wrong & bit != 0 { at_least(random, count) } else { random.below(count) };
+        set2(image, at + 2 + 2 * side, number);
+    }
+    8 * own + wrong.trailing_zeros() as usize
 }
 
 /// The rows of a program image in the order in which damage must be done.

@@ -60,9 +60,10 @@ impl Effort {
 type Part = fn(&mut Suite, &Effort) -> Checked<()>;
 
 /// The parts by name. The solver is not among them, since it is not everywhere.
-pub const PARTS: [(&str, Part); 8] = [
+pub const PARTS: [(&str, Part); 9] = [
     ("worked examples", |suite, _| suite.worked_examples()),
     ("limits", |suite, _| suite.limits()),
+    ("broken nodes", |suite, _| suite.broken_nodes()),
     ("damaged images and arguments", |suite, effort| suite.damaged(effort.damages)),
     ("mutated images", |suite, effort| suite.mutated(effort.mutations)),
     ("every small book", |suite, effort| suite.every_small_book(effort.stride)),

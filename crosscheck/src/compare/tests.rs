@@ -93,6 +93,70 @@ fn an_invented_count() {
     found("list_sets", Calls { list_sets, ..reference::CALLS });
 }
 
+/// The place of row 6 is the node alone, in one call after the other.
+#[test]
+fn a_node_without_its_field() {
+    fn node(answer: Answer) -> Answer {
+        let place = if answer.number == 6 { answer.place / 8 } else { answer.place };
+        Answer { place, ..answer }
+    }
+    let good = reference::CALLS;
+    let broken = Calls {
+        check_theory: |theory| node(reference::check_theory(theory)),
+        evaluate_theory: |theory, reading| node(reference::evaluate_theory(theory, reading)),
+        translate: |theory, out| node(reference::translate(theory, out)),
+        extend: |theory, reading, out| node(reference::extend(theory, reading, out)),
+        test_theory: |theory, candidate| node(reference::test_theory(theory, candidate)),
+        list_sets: |theory, out| node(reference::list_sets(theory, out)),
+        ..good
+    };
+    found("check_theory", Calls { check_theory: broken.check_theory, ..good });
+    found("evaluate_theory", Calls { evaluate_theory: broken.evaluate_theory, ..good });
+    found("translate", Calls { translate: broken.translate, ..good });
+    found("extend", Calls { extend: broken.extend, ..good });
+    found("test_theory", Calls { test_theory: broken.test_theory, ..good });
+    found("list_sets", Calls { list_sets: broken.list_sets, ..good });
+    // Both sides alike.
+    assert!(Suite::new(&broken, &broken, 1).broken_nodes().is_err());
+}
+
+#[test]
+fn fields_in_the_wrong_order() {
+    /// Gives the field after `FIELD` where both are wrong: where it is the first once `FIELD` is made 0.
+    fn check_theory<const FIELD: usize>(theory: &[u8]) -> Answer {
+        let answer = reference::check_theory(theory);
+        if answer.number != 6 || answer.place % 8 != FIELD {
+            return answer;
+        }
+        let mut mended = theory.to_vec();
+        let node = &mut mended[16 + 6 * (answer.place / 8)..];
+        node[FIELD..[1, 2, 4][FIELD]].fill(0);
+        let next = reference::check_theory(&mended);
+        if next.number == 6 && next.place == answer.place + 1 {
+            next
+        } else {
+            answer
+        }
+    }
+    found("check_theory", Calls { check_theory: check_theory::<0>, ..reference::CALLS });
+    found("check_theory", Calls { check_theory: check_theory::<1>, ..reference::CALLS });
+    found("check_theory", Calls { check_theory: check_theory::<2>, ..reference::CALLS });
+}
+
+#[test]
+fn the_first_field_of_all_nodes() {
+    /// Looks at the kinds of all nodes before any other field.
+    fn check_theory(theory: &[u8]) -> Answer {
+        let answer = reference::check_theory(theory);
+        if answer.number != 6 {
+            return answer;
+        }
+        let kind = theory[16..].chunks(6).take(get2(theory, 2)).position(|node| node[0] > 6);
+        Answer { place: kind.map_or(answer.place, |own| 8 * own), ..answer }
+    }
+    found("check_theory", Calls { check_theory, ..reference::CALLS });
+}
+
 #[test]
 fn rows_in_the_wrong_order() {
     fn evaluate_theory(theory: &[u8], reading: &[u8]) -> Answer {

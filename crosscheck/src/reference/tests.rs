@@ -1,6 +1,7 @@
 //! The facts that the specification lists, one by one.
 
 use super::*;
+use crate::calls::Call;
 use crate::lists::{Book, Program, Rule};
 use crate::{formula, worked};
 
@@ -29,6 +30,15 @@ fn translated(image: &[u8]) -> (usize, Vec<u8>) {
     (answer.result, out)
 }
 
+/// The theory of P1 as the specification prints it.
+const P1: [u8; 36] = [
+    0x01, 0x00, 0x03, 0x00, 0x01, 0x00, 0x00, 0x00, 0x10, 0x00, 0x00, 0x00, 0x22, 0x00, 0x00, 0x00, //
+    0x02, 0x00, 0x00, 0x00, 0x00, 0x00, //
+    0x03, 0x00, 0x00, 0x00, 0x00, 0x00, //
+    0x05, 0x00, 0x00, 0x00, 0x01, 0x00, //
+    0x02, 0x00,
+];
+
 fn p1() -> Book {
     Book { atoms: 1, nodes: vec![Node::Atom(0), Node::Not(0), Node::Or(0, 1)], roots: vec![2] }
 }
@@ -44,14 +54,7 @@ fn answer_sets_of_the_bench_cases() {
 #[test]
 fn p1_bytes() {
     let image = p1().image();
-    let expected = [
-        0x01, 0x00, 0x03, 0x00, 0x01, 0x00, 0x00, 0x00, 0x10, 0x00, 0x00, 0x00, 0x22, 0x00, 0x00, 0x00, //
-        0x02, 0x00, 0x00, 0x00, 0x00, 0x00, //
-        0x03, 0x00, 0x00, 0x00, 0x00, 0x00, //
-        0x05, 0x00, 0x00, 0x00, 0x01, 0x00, //
-        0x02, 0x00,
-    ];
-    assert_eq!(image, expected);
+    assert_eq!(image, P1);
     assert_eq!(check_theory(&image), accepted(1));
     let (_, program) = translated(&image);
     let header = [0x01, 0x00, 0x03, 0x00, 0x06, 0x00, 0x00, 0x00, 0x10, 0x00, 0x00, 0x00, 0x4C, 0x00, 0x00, 0x00];
@@ -245,8 +248,8 @@ fn the_largest_programs_of_a_book() {
 fn a_first_node_takes_no_label() {
     for first in [Node::Not(0), Node::And(0, 0), Node::Or(0, 0), Node::Implies(0, 0)] {
         let image = implications(first, 0);
-        assert_eq!(translate(&image, &mut [0; 70_000]), refused(6, 0));
-        assert_eq!(extend(&image, &[1; 1024], &mut [0; 4096]), refused(6, 0));
+        assert_eq!(translate(&image, &mut [0; 70_000]), refused(6, 2));
+        assert_eq!(extend(&image, &[1; 1024], &mut [0; 4096]), refused(6, 2));
     }
 }
 
@@ -265,11 +268,108 @@ fn rows_of_a_theory() {
     assert_eq!(with(15, 1), refused(4, 0));
     assert_eq!(check_theory(&good[..35]), refused(5, 36));
     assert_eq!(with(16, 7), refused(6, 0));
-    assert_eq!(with(17, 1), refused(6, 0));
-    assert_eq!(with(18, 1), refused(6, 0));
-    assert_eq!(with(26, 1), refused(6, 1));
-    assert_eq!(with(30, 2), refused(6, 2));
+    assert_eq!(with(17, 1), refused(6, 1));
+    assert_eq!(with(18, 1), refused(6, 2));
+    assert_eq!(with(26, 1), refused(6, 11));
+    assert_eq!(with(30, 2), refused(6, 18));
     assert_eq!(with(34, 3), refused(7, 0));
+}
+
+/// The answer to P1 with these bytes changed: the same from every call that takes a theory, and it is a refusal.
+fn with_bytes(changes: &[(usize, u8)]) -> Answer {
+    let mut image = P1;
+    changes.iter().for_each(|&(at, byte)| image[at] = byte);
+    let answer = check_theory(&image);
+    for call in Call::ALL.into_iter().filter(|call| !call.on_program()) {
+        let mut out = [9; 76];
+        assert_eq!(CALLS.run(call, &image, &[2], &mut out), answer, "{}", call.name());
+        assert_eq!(out, [9; 76], "{}", call.name());
+    }
+    answer
+}
+
+#[test]
+fn one_wrong_field() {
+    // The nodes start at bytes 16, 22 and 28: p, not p, and p or not p.
+    for (at, byte, place) in [
+        (16, 7, 0),
+        (17, 1, 1),
+        (18, 1, 2),
+        (19, 1, 2),
+        (20, 1, 3),
+        (21, 1, 3),
+        (22, 9, 8),
+        (23, 1, 9),
+        (24, 1, 10),
+        (25, 1, 10),
+        (26, 1, 11),
+        (27, 1, 11),
+        (28, 255, 16),
+        (29, 255, 17),
+        (30, 2, 18),
+        (31, 1, 18),
+        (32, 2, 19),
+        (33, 1, 19),
+    ] {
+        assert_eq!(with_bytes(&[(at, byte)]), refused(6, place), "byte {at}");
+    }
+}
+
+#[test]
+fn two_wrong_fields() {
+    let [kind, zero, left, right] = [(22, 9), (23, 1), (24, 1), (26, 1)];
+    for (fields, place) in [
+        ([kind, zero], 8),
+        ([kind, left], 8),
+        ([kind, right], 8),
+        ([zero, left], 9),
+        ([zero, right], 9),
+        ([left, right], 10),
+    ] {
+        assert_eq!(with_bytes(&fields), refused(6, place));
+    }
+    // The right of node 1 comes before the kind of node 2, and after the right of node 0.
+    assert_eq!(with_bytes(&[right, (28, 7)]), refused(6, 11));
+    assert_eq!(with_bytes(&[right, (20, 1)]), refused(6, 3));
+    // All nodes come before any root.
+    assert_eq!(with_bytes(&[right, (34, 3)]), refused(6, 11));
+}
+
+#[test]
+fn fields_by_kind() {
+    // Node 2 has left 0 and right 1. Up to kind 3 that right is wrong, from kind 4 to 6 nothing, from 7 on the kind.
+    for kind in 0..=3 {
+        assert_eq!(with_bytes(&[(28, kind)]), refused(6, 19));
+    }
+    for kind in 4..=6 {
+        let mut image = P1;
+        image[28] = kind;
+        assert_eq!(check_theory(&image), accepted(1));
+    }
+    for kind in 7..=255 {
+        assert_eq!(with_bytes(&[(28, kind)]), refused(6, 16));
+    }
+    // Node 0 with left 0: there is no earlier node, and without atoms no atom.
+    for kind in 3..=6 {
+        assert_eq!(with_bytes(&[(16, kind)]), refused(6, 2));
+    }
+    let mut image = P1;
+    image[0] = 0;
+    assert_eq!(check_theory(&image), refused(6, 2));
+}
+
+#[test]
+fn fields_of_the_last_node() {
+    let good = implications(Node::Atom(0), 256);
+    assert_eq!(check_theory(&good), accepted(1));
+    // 16 + 6 * 1023 is 6154 and 8 * 1023 is 8184. The number 1023, hex 03 FF, is not earlier.
+    for (at, bytes, place) in
+        [(6154, [7, 0], 8184), (6154, [6, 1], 8185), (6156, [255, 3], 8186), (6158, [255, 3], 8187)]
+    {
+        let mut image = good.clone();
+        image[at..at + 2].copy_from_slice(&bytes);
+        assert_eq!(check_theory(&image), refused(6, place));
+    }
 }
 
 #[test]

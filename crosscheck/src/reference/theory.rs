@@ -42,8 +42,10 @@ impl<'a> Theory<'a> {
         }
         let count = nodes;
         let (nodes, roots) = body.split_at(6 * count);
-        if let Some((bad, _)) = groups(nodes).enumerate().find(|&(own, node)| !fits(node, own, atoms)) {
-            return refuse(6, bad);
+        for (own, node) in groups(nodes).enumerate() {
+            if let Some(field) = wrong_field(node, own, atoms) {
+                return refuse(6, 8 * own + field);
+            }
         }
         if let Some(bad) = groups::<2>(roots).position(|root| half(root, 0) >= count) {
             return refuse(7, bad);
@@ -86,17 +88,25 @@ impl<'a> Theory<'a> {
     }
 }
 
-/// Whether the six bytes obey their kind's row, as node number `own` over `atoms` atoms.
-fn fits(node: &[u8; 6], own: usize, atoms: usize) -> bool {
+/// The first wrong field of node number `own` over `atoms` atoms: 0 kind, 1 zero byte, 2 left, 3 right.
+fn wrong_field(node: &[u8; 6], own: usize, atoms: usize) -> Option<usize> {
     let (left, right) = (half(node, 2), half(node, 4));
-    node[1] == 0
-        && match node[0] {
-            0 | 1 => left == 0 && right == 0,
-            2 => left < atoms && right == 0,
-            3 => left < own && right == 0,
-            4..=6 => left < own && right < own,
-            _ => false,
-        }
+    let (left_fits, right_fits) = match node[0] {
+        0 | 1 => (left == 0, right == 0),
+        2 => (left < atoms, right == 0),
+        3 => (left < own, right == 0),
+        4..=6 => (left < own, right < own),
+        _ => return Some(0),
+    };
+    if node[1] != 0 {
+        Some(1)
+    } else if !left_fits {
+        Some(2)
+    } else if !right_fits {
+        Some(3)
+    } else {
+        None
+    }
 }
 
 /// How many labels a node takes.

@@ -41,9 +41,9 @@ impl Suite<'_> {
             (1, leaves(1), vec![0; 257], 2, 0),
             (1024, leaves(1024), vec![1023; 256], 0, 0),
             (0, vec![], vec![0], 7, 0),
-            (0, leaves(1), vec![], 6, 0),
-            (1, vec![Node::Atom(0), Node::Not(1)], vec![], 6, 1),
-            (1, vec![Node::Not(0)], vec![], 6, 0),
+            (0, leaves(1), vec![], 6, 2),
+            (1, vec![Node::Atom(0), Node::Not(1)], vec![], 6, 10),
+            (1, vec![Node::Not(0)], vec![], 6, 2),
             (1, leaves(2), vec![1, 1, 2, 0], 7, 2),
         ];
         for (atoms, nodes, roots, number, place) in theories {
@@ -88,7 +88,7 @@ impl Suite<'_> {
             let mut book = generate::longest(&mut self.random, 1024, 1024, 256);
             book.nodes[0] = first;
             for call in [Call::CheckTheory, Call::Translate, Call::Extend] {
-                self.comparer.expect(call, &book.image(), &[1; 1024], 0, 6, Some(0))?;
+                self.comparer.expect(call, &book.image(), &[1; 1024], 0, 6, Some(2))?;
             }
         }
         Ok(())
@@ -117,6 +117,45 @@ impl Suite<'_> {
             if number == 0 {
                 self.program(&program, 3)?;
             }
+        }
+        Ok(())
+    }
+
+    /// Every choice of wrong fields in a node of each kind: the first node, one in the middle and the last.
+    pub fn broken_nodes(&mut self) -> Checked<()> {
+        for (atoms, nodes) in [(0, 3), (1024, 1024)] {
+            let image = generate::book(&mut self.random, atoms, nodes, 2).image();
+            self.yes(Call::CheckTheory, &image, &[])?;
+            for own in [0, nodes / 2, nodes - 1] {
+                self.broken_node(&image, own)?;
+            }
+        }
+        Ok(())
+    }
+
+    fn broken_node(&mut self, good: &[u8], own: usize) -> Checked<()> {
+        let last = get2(good, 2) - 1;
+        for kind in 0..=6 {
+            for wrong in 1..16 {
+                let mut image = good.to_vec();
+                let place = damage::node(&mut self.random, &mut image, own, kind, wrong);
+                self.refused_node(&image, place)?;
+                // A later node changes nothing, though its first field is wrong.
+                if own < last {
+                    damage::node(&mut self.random, &mut image, last, kind, 1);
+                    self.refused_node(&image, place)?;
+                }
+            }
+        }
+        Ok(())
+    }
+
+    /// Every call that takes a theory refuses this one by row 6, with this place.
+    fn refused_node(&mut self, image: &[u8], place: usize) -> Checked<()> {
+        let reading = vec![0; get2(image, 0)];
+        for call in Call::ALL.into_iter().filter(|call| !call.on_program()) {
+            let room = self.random.pick(&[0, 4096]);
+            self.comparer.expect(call, image, &reading, room, 6, Some(place))?;
         }
         Ok(())
     }
@@ -203,7 +242,9 @@ impl Broken {
 
     fn note(&mut self, row: u32, at: usize) {
         if row == self.row {
-            self.place = Some(self.place.map_or(at, |before| before.min(at)));
+            // A node that was broken before is broken anew, in other fields.
+            let before = self.place.filter(|before| row != 6 || before / 8 != at / 8);
+            self.place = Some(before.map_or(at, |before| before.min(at)));
         }
     }
 
