@@ -49,12 +49,7 @@ nodeIn s k = record { kind = kindOf (getD s (k * 6) 0); left = u16At s (k * 6 + 
 
 -- The four fields of node k in their order, each with whether it is wrong: a kind over 6, a zero byte that is not 0, a left and a right that the kind's row does not allow.
 abbrev pub wrongFields : (A : ℕ) → List ℕ → (k : ℕ) → List Bool
-wrongFields A s k =
-    ltb 6 (getD s (k * 6) 0)
-    ∷ not (eqb (getD s (k * 6 + 1) 0) 0)
-    ∷ not (leftFits A k (nodeIn s k))
-    ∷ not (rightFits k (nodeIn s k))
-    ∷ []
+wrongFields A s k = ltb 6 (getD s (k * 6) 0) ∷ not (eqb (getD s (k * 6 + 1) 0) 0) ∷ not (leftFits A k (nodeIn s k)) ∷ not (rightFits k (nodeIn s k)) ∷ []
 
 -- Field f of node k is wrong.
 abbrev pub isWrong : (A : ℕ) → List ℕ → (k f : ℕ) → Bool
