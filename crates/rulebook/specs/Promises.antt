@@ -29,7 +29,7 @@ use Rattle.logic.proofs.Worlds
 use Rattle.logic.proofs.AnswerSets
 use Rattle.theory.specs.Book.{Book, nodeAt, impliesKind, WellFormed, formulaAt, nodeFormulas, bookFormulas}
 use Rattle.theory.specs.BenchCases.{BenchCase, benchCases, atomsFrom, setsOf}
-use Rattle.theory.specs.Image.{atomCount, nodeCount, rootCount, nodeSection, rootSection, isWrong, breaks, rootIn, bookOf}
+use Rattle.theory.specs.Image.{atomCount, nodeCount, rootCount, nodeSection, rootSection, fieldWrong, breaks, rootIn, bookOf}
 use Rattle.theory.specs.Rows.{row6, row7, headerRows, theoryRows}
 use Rattle.theory.proofs.Rows as Rows
 use Rattle.theory.proofs.Rows.{numbered-theoryRows}
@@ -147,7 +147,7 @@ listSets-accepted t o = Outcome.written-accepted (listSetsRows t o) (listing t) 
 
 -- The place of 6, divided by 8, is the first node that breaks its row; its remainder is the first of that node's four fields that is wrong.
 row6-first : (t : List ℕ) → row6 t .applies ≡ true → let node = row6 t .place / 8 in
-    FirstAt (breaks (atomCount t) (nodeSection t)) (nodeCount t) node × FirstAt (isWrong (atomCount t) (nodeSection t) node) 4 (row6 t .place % 8)
+    FirstAt (breaks (atomCount t) (nodeSection t)) (nodeCount t) node × FirstAt (fieldWrong (atomCount t) (nodeSection t) node) 4 (row6 t .place % 8)
 row6-first = Rows.row6-first
 
 -- The place of 7 is the first such root, that of 26 the first such rule, that of 10 the first such index.

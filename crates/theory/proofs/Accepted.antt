@@ -17,7 +17,7 @@ use Rattle.wire.specs.Sequence.{upTo}
 use Rattle.wire.proofs.Laws.{allBelow-each}
 use Rattle.wire.proofs.Sequence.{length-upTo, getD-upTo}
 use Rattle.theory.specs.Book.{Node, WellFormed, leftFits, rightFits, fits}
-use Rattle.theory.specs.Image.{atomCount, nodeCount, rootCount, imageLength, nodeSection, rootSection, nodeIn, isWrong, breaks, rootIn, bookOf}
+use Rattle.theory.specs.Image.{atomCount, nodeCount, rootCount, imageLength, nodeSection, rootSection, nodeIn, fieldWrong, breaks, rootIn, bookOf}
 use Rattle.theory.specs.Rows.{row6, row7, headerRows, theoryRows}
 use Rattle.theory.proofs.Books.{allFit-each}
 
@@ -37,8 +37,8 @@ pub record Accepted (t : List ℕ) : Type 0 where
 
 -- A node that keeps its row, so that none of its fields is wrong: its kind is known, and it fits.
 module _ (A : ℕ) (s : List ℕ) (k : ℕ) (kept : breaks A s k ≡ false) where
-  right : (f : ℕ) → f < 4 → isWrong A s k f ≡ false
-  right = first-none (isWrong A s k) 4 .0 kept
+  right : (f : ℕ) → f < 4 → fieldWrong A s k f ≡ false
+  right = first-none (fieldWrong A s k) 4 .0 kept
 
   pub kept-known : getD s (k * 6) 0 < 7
   kept-known = omega (arith, ltb-false 6 (getD s (k * 6) 0) (right 0 (omega arith)))

@@ -7,7 +7,7 @@ use native.Mathlib.Omega.{arith}
 use Rattle.refusal.specs.Table.{numbered}
 use Rattle.refusal.specs.First.{first, FirstAt}
 use Rattle.refusal.proofs.First.{first-is}
-use Rattle.theory.specs.Image.{atomCount, nodeCount, nodeSection, isWrong, wrongField, breaks}
+use Rattle.theory.specs.Image.{atomCount, nodeCount, nodeSection, fieldWrong, firstWrong, breaks}
 use Rattle.theory.specs.Rows.{row6, headerRows, theoryRows}
 
 pub numbered-headerRows : (t : List ℕ) → numbered (headerRows t) ≡ true
@@ -20,12 +20,12 @@ numbered-theoryRows t = refl
 
 -- The place of row 6, divided by 8, is the first node that breaks its row, and its remainder is the first of that node's fields that is wrong.
 pub row6-first : (t : List ℕ) → row6 t .applies ≡ true → let node = row6 t .place / 8 in
-    FirstAt (breaks (atomCount t) (nodeSection t)) (nodeCount t) node × FirstAt (isWrong (atomCount t) (nodeSection t) node) 4 (row6 t .place % 8)
+    FirstAt (breaks (atomCount t) (nodeSection t)) (nodeCount t) node × FirstAt (fieldWrong (atomCount t) (nodeSection t) node) 4 (row6 t .place % 8)
 row6-first t h =
     let A = atomCount t in
     let s = nodeSection t in
     let node = first-is (breaks A s) (nodeCount t) h in
-    let field = first-is (isWrong A s (first (breaks A s) (nodeCount t))) 4 (node .holds) in
+    let field = first-is (fieldWrong A s (first (breaks A s) (nodeCount t))) 4 (node .holds) in
     let at : row6 t .place / 8 ≡ first (breaks A s) (nodeCount t) = omega (arith, field .below) in
-    let in-it : row6 t .place % 8 ≡ wrongField A s (first (breaks A s) (nodeCount t)) = omega (arith, field .below) in
+    let in-it : row6 t .place % 8 ≡ firstWrong A s (first (breaks A s) (nodeCount t)) = omega (arith, field .below) in
     rw (in-it, at) (node, field)

@@ -52,20 +52,20 @@ abbrev pub wrongFields : (A : ℕ) → List ℕ → (k : ℕ) → List Bool
 wrongFields A s k = ltb 6 (getD s (k * 6) 0) ∷ not (eqb (getD s (k * 6 + 1) 0) 0) ∷ not (leftFits A k (nodeIn s k)) ∷ not (rightFits k (nodeIn s k)) ∷ []
 
 -- Field f of node k is wrong.
-abbrev pub isWrong : (A : ℕ) → List ℕ → (k f : ℕ) → Bool
-isWrong A s k f = getD (wrongFields A s k) f false
+abbrev pub fieldWrong : (A : ℕ) → List ℕ → (k f : ℕ) → Bool
+fieldWrong A s k f = getD (wrongFields A s k) f false
 
 -- The first field of node k that is wrong, and 4 where none is.
-abbrev pub wrongField : (A : ℕ) → List ℕ → (k : ℕ) → ℕ
-wrongField A s k = first (isWrong A s k) 4
+abbrev pub firstWrong : (A : ℕ) → List ℕ → (k : ℕ) → ℕ
+firstWrong A s k = first (fieldWrong A s k) 4
 
 -- Where it stands among the fields of all nodes, eight numbers to a node.
 abbrev pub wrongPlace : (A : ℕ) → List ℕ → (k : ℕ) → ℕ
-wrongPlace A s k = k * 8 + wrongField A s k
+wrongPlace A s k = k * 8 + firstWrong A s k
 
 -- Node k breaks its row: one of its fields is wrong.
 abbrev pub breaks : (A : ℕ) → List ℕ → (k : ℕ) → Bool
-breaks A s k = ltb (wrongField A s k) 4
+breaks A s k = ltb (firstWrong A s k) 4
 
 -- Root i of the roots' section.
 abbrev pub rootIn : List ℕ → ℕ → ℕ

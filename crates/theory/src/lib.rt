@@ -14,7 +14,7 @@ ghost use Rattle.logic.specs.Value.{number};
 ghost use Rattle.logic.specs.Formula.{readingOf, valueOf, satisfies};
 ghost use Rattle.wire.specs.Wire.{u32At, over};
 ghost use Rattle.theory.specs.Book.{leftLimit, rightLimit, fits, bookFormulas};
-ghost use Rattle.theory.specs.Image.{atomCount, nodeCount, rootCount, rootsStart, kindOf, nodeIn, wrongField, breaks, rootIn, bookOf};
+ghost use Rattle.theory.specs.Image.{atomCount, nodeCount, rootCount, rootsStart, kindOf, nodeIn, firstWrong, breaks, rootIn, bookOf};
 ghost use Rattle.theory.specs.Rows.{headerRows, theoryRows};
 ghost use Rattle.theory.specs.NodeValues.{valueFrom, valuesTo, nodeValues};
 
@@ -115,9 +115,9 @@ fn right_limit(kind: u8, k: usize) -> usize
 }
 
 // The first field of node k that is wrong, and 4 where none is: kind, zero byte, left, right.
-fn wrong_field(nodes: &[u8], k: usize, atoms: usize) -> usize
+fn first_wrong_field(nodes: &[u8], k: usize, atoms: usize) -> usize
     requires { ⌜ k * 6 + 6 ≤ length (now nodes) ⌝ }
-    ensures { λ r. ⌜ r ≡ wrongField atoms (now (nodes .entry)) k ⌝ }
+    ensures { λ r. ⌜ r ≡ firstWrong atoms (now (nodes .entry)) k ⌝ }
 {
     let i = k * 6;
     let kind = nodes[i];
@@ -143,7 +143,7 @@ fn first_broken_node(nodes: &[u8], atoms: usize, count: usize) -> usize
 {
     let mut k = 0;
     while k < count {
-        if wrong_field(nodes, k, atoms) < 4 {
+        if first_wrong_field(nodes, k, atoms) < 4 {
             return k;
         }
         k += 1;
@@ -179,7 +179,7 @@ pub fn check(theory: &[u8]) -> Answer
     if node < node_count {
         return refusal::refuse(
             6,
-            node * 8 + wrong_field(&theory[16..], node, atoms(theory)),
+            node * 8 + first_wrong_field(&theory[16..], node, atoms(theory)),
         );
     }
     let start = roots_start(theory);

@@ -10,7 +10,7 @@ use borrow.Author.Needs.{needs}
 use Rattle.refusal.specs.Table.{none}
 use Rattle.refusal.specs.First.{first}
 use Rattle.refusal.proofs.Table.{answer-refused, none-accepted, Reached, reached-past, reached-accepted}
-use Rattle.theory.specs.Image.{atomCount, nodeCount, rootCount, rootsStart, nodeSection, isWrong, wrongField, wrongPlace, breaks}
+use Rattle.theory.specs.Image.{atomCount, nodeCount, rootCount, rootsStart, nodeSection, fieldWrong, firstWrong, wrongPlace, breaks}
 use Rattle.theory.specs.Rows.{row6, row7, headerRows, theoryRows}
 use Rattle.wire.proofs.Laws.{part-from}
 use Rattle.refusal.proofs.First.{first-le, first-refused, first-next}
@@ -45,11 +45,11 @@ node-is c =
     rw (← c .before .atoms .ensures .0, ← nodes-are c, ← part-from 16 t) (c .first-broken-node .ensures)
 
 -- and the field is the first of its fields that is wrong
-field-is : (c : tie.After-wrong-field) → let node = c .before .before .before .before in let t = image (node .before .before .before .before) in
-    c .wrong-field .result ≡ wrongField (atomCount t) (nodeSection t) (node .first-broken-node .result)
+field-is : (c : tie.After-first-wrong-field) → let node = c .before .before .before .before in let t = image (node .before .before .before .before) in
+    c .first-wrong-field .result ≡ firstWrong (atomCount t) (nodeSection t) (node .first-broken-node .result)
 field-is c =
     let t = image (c .before .before .before .before .before .before .before .before) in
-    rw (← c .before .atoms2 .ensures .0, ← part-from 16 t) (c .wrong-field .ensures)
+    rw (← c .before .atoms2 .ensures .0, ← part-from 16 t) (c .first-wrong-field .ensures)
 
 abbrev to-node : tie.Else2 → tie.After-first-broken-node
 to-node c = c .before
@@ -104,20 +104,20 @@ first-broken-node-requires c κs =
 mul-refuse : tie.Need-mul-refuse
 mul-refuse c = omega (arith, c .if2 .taken, c .before .before .before .before .nodes .ensures .1)
 
-sub-wrong-field : tie.Need-sub-wrong-field
-sub-wrong-field c = is-header (c .before .before .before .before .before) .long
+sub-first-wrong-field : tie.Need-sub-first-wrong-field
+sub-first-wrong-field c = is-header (c .before .before .before .before .before) .long
 
-part-wrong-field-start : tie.Need-part-wrong-field-start
-part-wrong-field-start c = is-header (c .before .before .before .before .before) .long
+part-first-wrong-field-start : tie.Need-part-first-wrong-field-start
+part-first-wrong-field-start c = is-header (c .before .before .before .before .before) .long
 
-part-wrong-field-end : tie.Need-part-wrong-field-end
-part-wrong-field-end c = search needs
+part-first-wrong-field-end : tie.Need-part-first-wrong-field-end
+part-first-wrong-field-end c = search needs
 
 atoms-requires-2 : tie.Need-atoms-requires-2
 atoms-requires-2 c κs = is-header (c .before .before .before .before .before .before) .long
 
-wrong-field-requires : tie.Need-wrong-field-requires
-wrong-field-requires c κs =
+first-wrong-field-requires : tie.Need-first-wrong-field-requires
+first-wrong-field-requires c κs =
     let head = is-header (c .before .before .before .before .before .before .before) in
     rw (part-from, length-drop) (omega (arith, head))
 
@@ -125,7 +125,7 @@ add-refuse : tie.Need-add-refuse
 add-refuse c =
     let t = image (c .before .before .before .before .before .before .before .before) in
     let node = c .before .before .before in
-    omega (arith, node .if2 .taken, node .before .before .before .before .nodes .ensures .1, field-is c, first-le (isWrong (atomCount t) (nodeSection t) (node .before .first-broken-node .result)) 4)
+    omega (arith, node .if2 .taken, node .before .before .before .before .nodes .ensures .1, field-is c, first-le (fieldWrong (atomCount t) (nodeSection t) (node .before .first-broken-node .result)) 4)
 
 refuse-requires : tie.Need-refuse-requires
 refuse-requires c κs = search needs
@@ -187,11 +187,11 @@ check-spec =
     atoms-requires
     first-broken-node-requires
     mul-refuse
-    sub-wrong-field
-    part-wrong-field-start
-    part-wrong-field-end
+    sub-first-wrong-field
+    part-first-wrong-field-start
+    part-first-wrong-field-end
     atoms-requires-2
-    wrong-field-requires
+    first-wrong-field-requires
     add-refuse
     refuse-requires
     returns-2

@@ -17,12 +17,12 @@ abbrev μ-loop : tie.MeasureT-loop
 loop-holds : tie.Need-loop-holds Inv-loop μ-loop
 loop-holds c = search needs
 
-wrong-field-requires : tie.Need-wrong-field-requires Inv-loop μ-loop
-wrong-field-requires c κs = search needs
+first-wrong-field-requires : tie.Need-first-wrong-field-requires Inv-loop μ-loop
+first-wrong-field-requires c κs = search needs
 
 returns : tie.Need-returns Inv-loop μ-loop
 returns c =
-    first-here _ _ _ (c .before .before .before .loop .inv) (rw (← c .before .wrong-field .ensures) (lt-ltb _ 4 (c .if1 .taken)))
+    first-here _ _ _ (c .before .before .before .loop .inv) (rw (← c .before .first-wrong-field .ensures) (lt-ltb _ 4 (c .if1 .taken)))
 
 add-k : tie.Need-add-k Inv-loop μ-loop
 add-k c = search needs
@@ -33,7 +33,7 @@ loop-less c = search needs
 loop-again : tie.Need-loop-again Inv-loop μ-loop
 loop-again c =
     let turn = c .before .before in
-    first-on _ _ _ (turn .before .loop .inv) (turn .loop-test .taken) (rw (← c .before .wrong-field .ensures) (le-ltb _ 4 (c .if1 .left)))
+    first-on _ _ _ (turn .before .loop .inv) (turn .loop-test .taken) (rw (← c .before .first-wrong-field .ensures) (le-ltb _ 4 (c .if1 .left)))
 
 returns-2 : tie.Need-returns-2 Inv-loop μ-loop
 returns-2 c = first-end _ _ _ (c .before .loop .inv) (c .loop-test .left)
@@ -45,7 +45,7 @@ first-broken-node-spec =
     Inv-loop
     μ-loop
     loop-holds
-    wrong-field-requires
+    first-wrong-field-requires
     returns
     add-k
     loop-less

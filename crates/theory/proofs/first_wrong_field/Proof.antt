@@ -1,4 +1,4 @@
--- `wrong_field` gives the first of a node's fields that is wrong: it tries them in their order, and has passed those that are right. Assumes nothing.
+-- `first_wrong_field` gives the first of a node's fields that is wrong: it tries them in their order, and has passed those that are right. Assumes nothing.
 use mathlib.Core.Path.{ap}
 use mathlib.Core.Bool.{not}
 use Prim.Native.Nat.{ℕ, _≤_}
@@ -7,12 +7,12 @@ use denote.Ref.{now}
 use borrow.Author.Needs.{needs}
 use borrow.Author.Tests.{lt-ltb, le-ltb, eq-eqb, ne-eqb}
 use Rattle.refusal.proofs.First.{first-here, first-on, first-end}
-use Rattle.theory.specs.Image.{wrongField}
-use Rattle.theory.proofs.wrong_field.Statement.{statement}
-use Rattle.theory.proofs.wrong_field.Tie as tie
+use Rattle.theory.specs.Image.{firstWrong}
+use Rattle.theory.proofs.first_wrong_field.Statement.{statement}
+use Rattle.theory.proofs.first_wrong_field.Tie as tie
 
 abbrev wanted : tie.Start → ℕ
-wanted c = wrongField (c .args .atoms) (now (c .args .nodes)) (c .args .k)
+wanted c = firstWrong (c .args .atoms) (now (c .args .nodes)) (c .args .k)
 
 -- past each test, the first wrong field is further on
 kind-passed : (c : tie.Else1) → 1 ≤ wanted (c .before .before .before)
@@ -80,8 +80,8 @@ returns-4 c =
 returns-5 : tie.Need-returns-5
 returns-5 c = first-end _ 4 4 (right-passed c) (omega arith)
 
-pub wrong-field-spec : {M : Type 1} → statement M
-wrong-field-spec =
+pub first-wrong-field-spec : {M : Type 1} → statement M
+first-wrong-field-spec =
     tie.close
     (tie.spec
     mul-i
