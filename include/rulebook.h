@@ -18,7 +18,7 @@
  *  3       bytes 6-7 of the theory not zero                    0
  *  4       an offset of the theory differs                     0
  *  5       length of the theory differs                        length wanted
- *  6       a node breaks its row, or its zero byte is not 0    first such node
+ *  6       a node breaks its row, or its zero byte is not 0    8 * node + field, see below
  *  7       a root is not below N                               first such root's index
  *  8       output shorter than needed                          bytes needed
  *  9       reading's length is not the atom count              count wanted
@@ -30,6 +30,9 @@
  *  24      rule offset or total length field differs           0
  *  25      length of the program differs from the total        length wanted
  *  26      a rule is malformed                                 first such rule
+ *
+ * The place of 6 divided by 8 is the first such node, and the remainder is the first of
+ * its fields that is wrong: 0 the kind (over 6), 1 the zero byte, 2 left, 3 right.
  */
 #ifndef RULEBOOK_H
 #define RULEBOOK_H

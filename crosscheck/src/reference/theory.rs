@@ -42,10 +42,8 @@ impl<'a> Theory<'a> {
         }
         let count = nodes;
         let (nodes, roots) = body.split_at(6 * count);
-        for (own, node) in groups(nodes).enumerate() {
-            if let Some(field) = wrong_field(node, own, atoms) {
-                return refuse(6, 8 * own + field);
-            }
+        if let Some((own, node)) = groups(nodes).enumerate().find(|&(own, node)| !fits(node, own, atoms)) {
+            return refuse(6, 8 * own + wrong_field(node, own, atoms));
         }
         if let Some(bad) = groups::<2>(roots).position(|root| half(root, 0) >= count) {
             return refuse(7, bad);
@@ -88,24 +86,38 @@ impl<'a> Theory<'a> {
     }
 }
 
-/// The first wrong field of node number `own` over `atoms` atoms: 0 kind, 1 zero byte, 2 left, 3 right.
-fn wrong_field(node: &[u8; 6], own: usize, atoms: usize) -> Option<usize> {
-    let (left, right) = (half(node, 2), half(node, 4));
-    let (left_fits, right_fits) = match node[0] {
-        0 | 1 => (left == 0, right == 0),
-        2 => (left < atoms, right == 0),
-        3 => (left < own, right == 0),
-        4..=6 => (left < own, right < own),
-        _ => return Some(0),
-    };
-    if node[1] != 0 {
-        Some(1)
-    } else if !left_fits {
-        Some(2)
-    } else if !right_fits {
-        Some(3)
+/// Whether left obeys the kind's row, in node number `own` over `atoms` atoms.
+fn left_fits(node: &[u8; 6], own: usize, atoms: usize) -> bool {
+    let left = half(node, 2);
+    match node[0] {
+        0 | 1 => left == 0,
+        2 => left < atoms,
+        _ => left < own,
+    }
+}
+
+/// Whether all six bytes do.
+fn fits(node: &[u8; 6], own: usize, atoms: usize) -> bool {
+    let right = half(node, 4);
+    node[1] == 0
+        && left_fits(node, own, atoms)
+        && match node[0] {
+            0..=3 => right == 0,
+            4..=6 => right < own,
+            _ => false,
+        }
+}
+
+/// The first wrong field of a node that breaks its row: 0 kind, 1 zero byte, 2 left, 3 right.
+fn wrong_field(node: &[u8; 6], own: usize, atoms: usize) -> usize {
+    if node[0] > 6 {
+        0
+    } else if node[1] != 0 {
+        1
+    } else if !left_fits(node, own, atoms) {
+        2
     } else {
-        None
+        3
     }
 }
 
