@@ -48,12 +48,14 @@ rows-within k h = leb-true _ _ (all-at (λ k. leb (firstRow k + rowCount k) 14) 
 pub labels-few : (k : ℕ) → k < 7 → labelsOf k ≤ 2
 labels-few k h = rw (labels-count k h) (labelCount-le (kindOf k))
 
+-- So do those of a kind as the code reads its index.
+pub kind-within : (table index : List (List ℕ)) (kind : ℕ) → KindIn table index kind → getD (getD index kind []) 0 0 + getD (getD index kind []) 1 0 ≤ 14
+kind-within table index kind ok = rw (ok .counts) (rows-within kind (ok .known))
+
 -- Row j of a kind as the code reads it.
 module _ (table index : List (List ℕ)) (kind : ℕ) (ok : KindIn table index kind) (j : ℕ) (h : j < getD (getD index kind []) 1 0) where
   pub row-within : getD (getD index kind []) 0 0 + j < 14
-  row-within =
-      let l : j < rowCount kind = rw (ok .counts) at h in
-      rw (ok .counts) (omega (arith, rows-within kind (ok .known)))
+  row-within = omega (arith, kind-within table index kind ok)
 
   pub row-read : getD table (getD (getD index kind []) 0 0 + j) [] ≡ kindShape kind j
   row-read = rw (ok .rows, ok .counts)

@@ -9,16 +9,16 @@ ghost use Rattle.table.specs.Shapes.{shapes, kinds, Named, Fillable};
 ghost use Rattle.table.specs.OneRule.{decode, ruleIn, allNames, nameIn, added, addedTo, madeOf, madeBytes};
 
 // What may stand in a slot: the terms x of left and y of right, the node's label L, and M, the label for the negation of right.
-const X: usize = 0;
+const X: u8 = 0;
 
-const Y: usize = 1;
+const Y: u8 = 1;
 
-const L: usize = 2;
+const L: u8 = 2;
 
-const M: usize = 3;
+const M: u8 = 3;
 
 // A row for each rule: heads, positives, negatives, and which term in which slot; an unused slot holds 0.
-const SHAPES: [[usize; 6]; 14] = [
+const SHAPES: [[u8; 6]; 14] = [
     [1, 0, 1, L, X, 0],
     [0, 2, 0, L, X, 0],
     [1, 1, 0, X, L, 0],
@@ -36,7 +36,7 @@ const SHAPES: [[usize; 6]; 14] = [
 ];
 
 // Of each kind its first row, its number of rows and its number of labels.
-const KINDS: [[usize; 3]; 7] = [
+const KINDS: [[u8; 3]; 7] = [
     [0, 0, 0],
     [0, 0, 0],
     [0, 0, 0],
@@ -47,13 +47,13 @@ const KINDS: [[usize; 3]; 7] = [
 ];
 
 // The table, and the index of the kinds: those of the definitions.
-pub fn shapes() -> [[usize; 6]; 14]
+pub fn shapes() -> [[u8; 6]; 14]
     ensures { λ r. ⌜ r ≡ shapes ⌝ }
 {
     SHAPES
 }
 
-pub fn kinds() -> [[usize; 3]; 7]
+pub fn kinds() -> [[u8; 3]; 7]
     ensures { λ r. ⌜ r ≡ kinds ⌝ }
 {
     KINDS
@@ -112,7 +112,7 @@ fn add(literals: Literals, removing: usize, term: usize) -> Literals
 fn add_slots(
     literals: Literals,
     removing: usize,
-    shape: &[usize; 6],
+    shape: &[u8; 6],
     terms: &[usize; 4],
     start: usize,
     count: usize,
@@ -123,7 +123,7 @@ fn add_slots(
     let mut all = literals;
     let mut j = 0;
     while j < count {
-        let slot = shape[start + j];
+        let slot = shape[start + j] as usize;
         all = add(all, removing, terms[slot]);
         j += 1;
     }
@@ -138,22 +138,26 @@ pub fn all_names(terms: &[usize; 4]) -> bool
 }
 
 // What stands in slot j of a rule of a shape that uses so many slots, where every term is a name.
-fn name_in(shape: &[usize; 6], terms: &[usize; 4], used: usize, j: usize) -> usize
+fn name_in(shape: &[u8; 6], terms: &[usize; 4], used: usize, j: usize) -> usize
     requires { ⌜ (j < 3) × Named (now shape) ⌝ }
     ensures { λ r. ⌜ r ≡ nameIn (now (shape .entry)) (now (terms .entry)) used j ⌝ }
 {
-    if j < used { terms[shape[3 + j]] } else { 0 }
+    if j < used {
+        terms[shape[3 + j] as usize]
+    } else {
+        0
+    }
 }
 
 // The rule of a shape, where the terms of x, y, L and M are all names: it stays with all its literals.
-fn make_of_names(shape: &[usize; 6], terms: &[usize; 4]) -> Made
+fn make_of_names(shape: &[u8; 6], terms: &[usize; 4]) -> Made
     requires { ⌜ Fillable (now shape) ⌝ }
     requires { ⌜ allNames (now terms) ≡ true ⌝ }
     ensures { λ r. ⌜ r ≡ madeOf (ruleIn (now (shape .entry)) (now (terms .entry))) ⌝ }
 {
-    let heads = shape[0];
-    let positives = shape[1];
-    let negatives = shape[2];
+    let heads = shape[0] as usize;
+    let positives = shape[1] as usize;
+    let negatives = shape[2] as usize;
     let used = heads + positives + negatives;
     let slots = [
         name_in(shape, terms, used, 0),
@@ -170,12 +174,12 @@ fn make_of_names(shape: &[usize; 6], terms: &[usize; 4]) -> Made
 }
 
 // The rule of a shape, its literals added one by one, whatever the terms.
-fn make_of_terms(shape: &[usize; 6], terms: &[usize; 4]) -> Made
+fn make_of_terms(shape: &[u8; 6], terms: &[usize; 4]) -> Made
     requires { ⌜ Fillable (now shape) ⌝ }
     ensures { λ r. ⌜ r ≡ madeOf (ruleIn (now (shape .entry)) (now (terms .entry))) ⌝ }
 {
-    let heads = shape[0];
-    let positives = shape[1];
+    let heads = shape[0] as usize;
+    let positives = shape[1] as usize;
     let none = Literals {
         kept: true,
         used: 0,
@@ -183,7 +187,14 @@ fn make_of_terms(shape: &[usize; 6], terms: &[usize; 4]) -> Made
     };
     let a = add_slots(none, TRUE, shape, terms, 3, heads);
     let b = add_slots(a, FALSE, shape, terms, 3 + heads, positives);
-    let c = add_slots(b, TRUE, shape, terms, 3 + heads + positives, shape[2]);
+    let c = add_slots(
+        b,
+        TRUE,
+        shape,
+        terms,
+        3 + heads + positives,
+        shape[2] as usize,
+    );
     let slots = c.slots;
     Made {
         kept: c.kept,
@@ -195,7 +206,7 @@ fn make_of_terms(shape: &[usize; 6], terms: &[usize; 4]) -> Made
 }
 
 // The rule of a shape, where x, y, L and M have these terms, by the straight way where no constant is among them.
-pub fn make(shape: &[usize; 6], terms: &[usize; 4]) -> Made
+pub fn make(shape: &[u8; 6], terms: &[usize; 4]) -> Made
     requires { ⌜ Fillable (now shape) ⌝ }
     ensures { λ r. ⌜ r ≡ madeOf (ruleIn (now (shape .entry)) (now (terms .entry))) ⌝ }
 {

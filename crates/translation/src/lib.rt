@@ -61,7 +61,7 @@ fn size(nodes: &[u8], count: usize, atoms: usize) -> usize
     let mut k = 0;
     while k < count {
         let kind = kind_at(nodes, k);
-        next += kinds[kind][2];
+        next += kinds[kind][2] as usize;
         k += 1;
     }
     next
@@ -91,7 +91,7 @@ fn number(nodes: &[u8], count: usize, atoms: usize, terms: &mut [u16]) -> usize
     while k < count {
         let kind = kind_at(nodes, k);
         terms[k] = term_of(kind, left_at(nodes, k), next) as u16;
-        next += kinds[kind][2];
+        next += kinds[kind][2] as usize;
         k += 1;
     }
     next
@@ -113,33 +113,23 @@ fn slot_terms(nodes: &[u8], k: usize, terms: &[u16; refusal::MOST_NODES], next: 
 }
 
 // How many rules a node of a kind has, where x, y, L and M have these terms: without constants, as many as its kind has rows.
-fn count_node(
-    table: &[[usize; 6]; 14],
-    index: &[[usize; 3]; 7],
-    kind: usize,
-    terms: &[usize; 4],
-) -> usize
+fn count_node(table: &[[u8; 6]; 14], index: &[[u8; 3]; 7], kind: usize, terms: &[usize; 4]) -> usize
     requires { ⌜ KindIn (now table) (now index) kind ⌝ }
     ensures { λ r. ⌜ r ≡ length (kindRules (now (terms .entry)) kind) ⌝ }
 {
     if table::all_names(terms) {
-        return index[kind][1];
+        return index[kind][1] as usize;
     }
     count_rows(table, index, kind, terms)
 }
 
 // How many rules of its kind's rows stay, whatever the terms.
-fn count_rows(
-    table: &[[usize; 6]; 14],
-    index: &[[usize; 3]; 7],
-    kind: usize,
-    terms: &[usize; 4],
-) -> usize
+fn count_rows(table: &[[u8; 6]; 14], index: &[[u8; 3]; 7], kind: usize, terms: &[usize; 4]) -> usize
     requires { ⌜ KindIn (now table) (now index) kind ⌝ }
     ensures { λ r. ⌜ r ≡ length (kindRules (now (terms .entry)) kind) ⌝ }
 {
-    let first = index[kind][0];
-    let count = index[kind][1];
+    let first = index[kind][0] as usize;
+    let count = index[kind][1] as usize;
     let mut rules = 0;
     let mut j = 0;
     while j < count {
@@ -169,7 +159,7 @@ fn count_rules(
         let kind = kind_at(nodes, k);
         let filling = slot_terms(nodes, k, terms, next);
         rules += count_node(&table, &index, kind, &filling);
-        next += index[kind][2];
+        next += index[kind][2] as usize;
         k += 1;
     }
     rules
@@ -194,8 +184,8 @@ fn count_facts(roots: &[u8], count: usize, terms: &[u16; refusal::MOST_NODES]) -
 // Writes the rules of a node of a kind over the start of `out`, and gives how many bytes they are.
 fn write_node(
     out: &mut [u8],
-    table: &[[usize; 6]; 14],
-    index: &[[usize; 3]; 7],
+    table: &[[u8; 6]; 14],
+    index: &[[u8; 3]; 7],
     kind: usize,
     terms: &[usize; 4],
 ) -> usize
@@ -203,8 +193,8 @@ fn write_node(
     ensures { λ r. ⌜ r ≡ length (rulesBytes (kindRules (now (terms .entry)) kind)) ⌝ }
     ensures { λ _. ⌜ now (out .exit) ≡ over (rulesBytes (kindRules (now (terms .entry)) kind)) (now (out .entry)) ⌝ }
 {
-    let first = index[kind][0];
-    let count = index[kind][1];
+    let first = index[kind][0] as usize;
+    let count = index[kind][1] as usize;
     let mut at = 0;
     let mut j = 0;
     while j < count {
@@ -237,7 +227,7 @@ fn write_nodes(
         let kind = kind_at(nodes, k);
         let filling = slot_terms(nodes, k, terms, next);
         at += write_node(&mut out[at..], &table, &index, kind, &filling);
-        next += index[kind][2];
+        next += index[kind][2] as usize;
         k += 1;
     }
     at
@@ -360,7 +350,12 @@ fn write_labels(
     while k < count {
         let kind = kind_at(nodes, k);
         let right = right_at(nodes, k);
-        at += put_labels(&mut out[at..], index[kind][2], values[k], values[right]);
+        at += put_labels(
+            &mut out[at..],
+            index[kind][2] as usize,
+            values[k],
+            values[right],
+        );
         k += 1;
     }
     at

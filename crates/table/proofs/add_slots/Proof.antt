@@ -24,15 +24,15 @@ loop-holds c = (refl, search needs, search needs)
 add-slot : tie.Need-add-slot Inv-loop μ-loop
 add-slot c = search needs
 
-mul-slot : tie.Need-mul-slot Inv-loop μ-loop
-mul-slot c = search needs
-
 element-copy-out-slot : tie.Need-element-copy-out-slot Inv-loop μ-loop
 element-copy-out-slot c = search needs
 
 -- the slot names one of the four terms
 named : (c : tie.In-loop Inv-loop μ-loop) → getD (now (c .before .before .args .shape)) (c .before .before .args .start + c .before .loop .j) 0 < 4
 named c = c .before .before .pre .2 _ (omega arith)
+
+cast-slot : tie.Need-cast-slot Inv-loop μ-loop
+cast-slot c = omega (arith, named (c .before))
 
 mul-add : tie.Need-mul-add Inv-loop μ-loop
 mul-add c = omega (arith, named (c .before))
@@ -68,8 +68,8 @@ add-slots-spec =
     μ-loop
     loop-holds
     add-slot
-    mul-slot
     element-copy-out-slot
+    cast-slot
     mul-add
     element-copy-out-add
     add-requires

@@ -8,11 +8,20 @@ use Rattle.table.proofs.make_of_names.Tie as tie
 element-copy-out-heads : tie.Need-element-copy-out-heads
 element-copy-out-heads c = search needs
 
+cast-heads : tie.Need-cast-heads
+cast-heads c = search needs
+
 element-copy-out-positives : tie.Need-element-copy-out-positives
 element-copy-out-positives c = search needs
 
+cast-positives : tie.Need-cast-positives
+cast-positives c = search needs
+
 element-copy-out-negatives : tie.Need-element-copy-out-negatives
 element-copy-out-negatives c = search needs
+
+cast-negatives : tie.Need-cast-negatives
+cast-negatives c = search needs
 
 add-used : tie.Need-add-used
 add-used c = search needs
@@ -40,8 +49,11 @@ make-of-names-spec =
     tie.close
     (tie.spec
     element-copy-out-heads
+    cast-heads
     element-copy-out-positives
+    cast-positives
     element-copy-out-negatives
+    cast-negatives
     add-used
     add-used-2
     name-in-requires

@@ -16,8 +16,14 @@ use Rattle.table.proofs.make_of_terms.Tie as tie
 element-copy-out-heads : tie.Need-element-copy-out-heads
 element-copy-out-heads c = search needs
 
+cast-heads : tie.Need-cast-heads
+cast-heads c = search needs
+
 element-copy-out-positives : tie.Need-element-copy-out-positives
 element-copy-out-positives c = search needs
+
+cast-positives : tie.Need-cast-positives
+cast-positives c = search needs
 
 add-slots-requires : tie.Need-add-slots-requires
 add-slots-requires c κs = search needs
@@ -53,6 +59,9 @@ add-add-slots-3 c = search needs
 element-copy-out-add-slots : tie.Need-element-copy-out-add-slots
 element-copy-out-add-slots c = search needs
 
+cast-add-slots : tie.Need-cast-add-slots
+cast-add-slots c = search needs
+
 add-slots-requires-3 : tie.Need-add-slots-requires-3
 add-slots-requires-3 c κs =
     let start = c .before .before .before .before .before in
@@ -60,13 +69,13 @@ add-slots-requires-3 c κs =
     let t = now (start .args .terms) in
     (rw (positives-are (c .before), length-append) (omega (arith, heads-few s t (start .pre), positives-few s t (start .pre))), omega arith, start .pre .named)
 
-sub-t12 : tie.Need-sub-t12
-sub-t12 c =
+sub-t16 : tie.Need-sub-t16
+sub-t16 c =
     let b = c .before .before .before .before .before in
     rw (heads-are (b .before), positives-are b, length-append) (omega arith)
 
-sub-t19 : tie.Need-sub-t19
-sub-t19 c =
+sub-t20 : tie.Need-sub-t20
+sub-t20 c =
     let d = c .before .before .before .before .before in
     rw (positives-are (d .before .before), negatives-are d) (simp length-append (omega arith))
 
@@ -82,14 +91,17 @@ make-of-terms-spec =
     tie.close
     (tie.spec
     element-copy-out-heads
+    cast-heads
     element-copy-out-positives
+    cast-positives
     add-slots-requires
     add-add-slots
     add-slots-requires-2
     add-add-slots-2
     add-add-slots-3
     element-copy-out-add-slots
+    cast-add-slots
     add-slots-requires-3
-    sub-t12
-    sub-t19
+    sub-t16
+    sub-t20
     returns)

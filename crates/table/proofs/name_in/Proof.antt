@@ -1,4 +1,4 @@
--- `name_in` gives what stands in a slot: its two ways out are those of the definition. Assumes nothing.
+-- `name_in` gives what stands in a slot: the name is read either way, and the two ways out are those of the definition. Assumes nothing.
 use native.Mathlib.Omega.{arith}
 use Prim.Native.Nat.{_+_, _<_}
 use lib.ListN.{getD}
@@ -11,9 +11,6 @@ use Rattle.table.proofs.name_in.Tie as tie
 add-result : tie.Need-add-result
 add-result c = search needs
 
-mul-result : tie.Need-mul-result
-mul-result c = search needs
-
 element-copy-out-result : tie.Need-element-copy-out-result
 element-copy-out-result c = search needs
 
@@ -21,8 +18,11 @@ element-copy-out-result c = search needs
 named : (c : tie.After-result) → let start = c .before .before in getD (now (start .args .shape)) (3 + start .args .j) 0 < 4
 named c = let start = c .before .before in start .pre .1 _ (omega (arith, start .pre .0))
 
-mul-result-2 : tie.Need-mul-result-2
-mul-result-2 c = omega (arith, named c)
+cast-result : tie.Need-cast-result
+cast-result c = omega (arith, named c)
+
+mul-result : tie.Need-mul-result
+mul-result c = omega (arith, named c)
 
 element-copy-out-result-2 : tie.Need-element-copy-out-result-2
 element-copy-out-result-2 c = named c
@@ -38,9 +38,9 @@ name-in-spec =
     tie.close
     (tie.spec
     add-result
-    mul-result
     element-copy-out-result
-    mul-result-2
+    cast-result
+    mul-result
     element-copy-out-result-2
     returns
     returns-2)

@@ -2,9 +2,11 @@
 use mathlib.Core.Path.{sym, ap, _∙_}
 use mathlib.Core.List.{List, []}
 use Prim.Native.Nat.{ℕ}
+use native.Mathlib.Omega.{arith}
 use lib.ListN.{getD}
 use denote.Ref.{now}
 use borrow.Author.Needs.{needs}
+use Rattle.table.proofs.Rows.{kind-within}
 use Rattle.translation.proofs.Turns.{kindRules-names}
 use Rattle.translation.proofs.count_node.Statement.{statement}
 use Rattle.translation.proofs.count_node.Tie as tie
@@ -20,6 +22,9 @@ index-1-result c = search needs
 
 index-2-result : tie.Need-index-2-result
 index-2-result c = search needs
+
+cast-result : tie.Need-cast-result
+cast-result c = omega (arith, kind-within _ _ _ (c .before .before .before .pre))
 
 returns : tie.Need-returns
 returns c =
@@ -42,6 +47,7 @@ count-node-spec =
     mul-result
     index-1-result
     index-2-result
+    cast-result
     returns
     count-rows-requires
     returns-2)

@@ -9,7 +9,7 @@ use borrow.Author.Needs.{needs}
 use Rattle.flat.specs.Flat.{simplify}
 use Rattle.table.specs.Shapes.{rowCount, kindShape}
 use Rattle.table.specs.OneRule.{ruleIn, madeCount}
-use Rattle.table.proofs.Rows.{row-within, row-read, row-fillable}
+use Rattle.table.proofs.Rows.{kind-within, row-within, row-read, row-fillable}
 use Rattle.table.proofs.OneRule.{madeCount-madeOf}
 use Rattle.translation.specs.Turns.{rowsTo}
 use Rattle.translation.proofs.Turns.{rowsTo-none, rowsTo-more, rowsTo-all}
@@ -31,6 +31,9 @@ index-1-first c = search needs
 index-2-first : tie.Need-index-2-first Inv-loop μ-loop
 index-2-first c = search needs
 
+cast-first : tie.Need-cast-first Inv-loop μ-loop
+cast-first c = omega (arith, kind-within _ _ _ (c .before .pre))
+
 mul-count : tie.Need-mul-count Inv-loop μ-loop
 mul-count c = search needs
 
@@ -39,6 +42,9 @@ index-1-count c = search needs
 
 index-2-count : tie.Need-index-2-count Inv-loop μ-loop
 index-2-count c = search needs
+
+cast-count : tie.Need-cast-count Inv-loop μ-loop
+cast-count c = omega (arith, kind-within _ _ _ (c .before .before .pre))
 
 loop-holds : tie.Need-loop-holds Inv-loop μ-loop
 loop-holds c = (rw rowsTo-none, search needs, search needs)
@@ -111,9 +117,11 @@ count-rows-spec =
     mul-first
     index-1-first
     index-2-first
+    cast-first
     mul-count
     index-1-count
     index-2-count
+    cast-count
     loop-holds
     add-make
     mul-make

@@ -42,6 +42,9 @@ index-1-next c = known c .row
 index-2-next : tie.Need-index-2-next Inv-loop μ-loop
 index-2-next c = search needs
 
+cast-next : tie.Need-cast-next Inv-loop μ-loop
+cast-next c = omega (arith, known (c .before))
+
 add-next : tie.Need-add-next Inv-loop μ-loop
 add-next c = omega (arith, known (c .before))
 
@@ -71,6 +74,7 @@ size-spec =
     mul-next
     index-1-next
     index-2-next
+    cast-next
     add-next
     add-k
     loop-less

@@ -71,6 +71,11 @@ index-1-put-labels c = rw (c .before .before .kind-at .ensures) (known (c .befor
 index-2-put-labels : tie.Need-index-2-put-labels Inv-loop μ-loop
 index-2-put-labels c = search needs
 
+cast-put-labels : tie.Need-cast-put-labels Inv-loop μ-loop
+cast-put-labels c =
+    let turn = c .before .before .before .before in
+    record { fits = rw (turn .before .before .kinds .ensures, c .before .before .before .kind-at .ensures) (omega (arith, labels-few _ (known turn .0))) }
+
 element-copy-out-put-labels : tie.Need-element-copy-out-put-labels Inv-loop μ-loop
 element-copy-out-put-labels c = omega (arith, c .before .before .before .before .before .before .before .before .before .pre .0)
 
@@ -134,6 +139,7 @@ write-labels-spec =
     mul-put-labels
     index-1-put-labels
     index-2-put-labels
+    cast-put-labels
     element-copy-out-put-labels
     element-copy-out-put-labels-2
     put-labels-requires

@@ -11,7 +11,7 @@ use Rattle.program.specs.Image.{rulesBytes}
 use Rattle.flat.specs.Flat.{simplify}
 use Rattle.table.specs.Shapes.{rowCount, kindShape, Fillable}
 use Rattle.table.specs.OneRule.{ruleIn, madeOf, madeBytes}
-use Rattle.table.proofs.Rows.{row-within, row-read, row-fillable}
+use Rattle.table.proofs.Rows.{kind-within, row-within, row-read, row-fillable}
 use Rattle.table.proofs.OneRule.{madeOf-few, length-ruleIn, madeBytes-madeOf}
 use Rattle.translation.specs.Turns.{rowsTo}
 use Rattle.translation.proofs.Turns.{rowsTo-none, rowsTo-more, rowsTo-all}
@@ -34,6 +34,9 @@ index-1-first c = search needs
 index-2-first : tie.Need-index-2-first Inv-loop μ-loop
 index-2-first c = search needs
 
+cast-first : tie.Need-cast-first Inv-loop μ-loop
+cast-first c = omega (arith, kind-within _ _ _ (c .before .before .pre .0))
+
 mul-count : tie.Need-mul-count Inv-loop μ-loop
 mul-count c = search needs
 
@@ -42,6 +45,9 @@ index-1-count c = search needs
 
 index-2-count : tie.Need-index-2-count Inv-loop μ-loop
 index-2-count c = search needs
+
+cast-count : tie.Need-cast-count Inv-loop μ-loop
+cast-count c = omega (arith, kind-within _ _ _ (c .before .before .before .pre .0))
 
 loop-holds : tie.Need-loop-holds Inv-loop μ-loop
 loop-holds c = (written-no-rules _ _ (rowsTo-none _ _), search needs)
@@ -164,9 +170,11 @@ write-node-spec =
     mul-first
     index-1-first
     index-2-first
+    cast-first
     mul-count
     index-1-count
     index-2-count
+    cast-count
     loop-holds
     add-make
     mul-make
