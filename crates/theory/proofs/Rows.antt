@@ -1,5 +1,5 @@
 -- Rows 1 to 7 have numbers of their own, computed from the definitions; and what the place of row 6 names, by the laws of the first such number. Assumes nothing.
-use mathlib.Core.Path.{_≡_, refl, subst}
+use mathlib.Core.Path.{_≡_, refl}
 use mathlib.Core.Bool.{true}
 use mathlib.Core.List.{List}
 use Prim.Native.Nat.{ℕ, _/_, _%_}
