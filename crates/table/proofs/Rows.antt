@@ -34,23 +34,19 @@ pub labels-count : (k : ℕ) → k < 7 → labelsOf k ≡ labelCount (kindOf k)
 labels-count = kinds-cases (λ k. labelsOf k ≡ labelCount (kindOf k)) refl refl refl refl refl refl refl
 
 -- A row has at most three literals, and its slots name x, y, L or M.
-pub shape-fillable : (i : ℕ) → i < 14 → Fillable (getD shapes i [])
+shape-fillable : (i : ℕ) → i < 14 → Fillable (getD shapes i [])
 shape-fillable i h = record {
   named = λ j l. ltb-true _ _ (all-at (λ j. ltb (getD (getD shapes i []) j 0) 4) 6 (all-at (λ i. all (λ j. ltb (getD (getD shapes i []) j 0) 4) 6) 14 refl i h) j l);
   few = leb-true _ _ (all-at (λ i. let s = getD shapes i [] in leb (getD s 0 0 + getD s 1 0 + getD s 2 0) 3) 14 refl i h);
 }
 
--- The rows of a kind stand in the table.
-pub rows-within : (k : ℕ) → k < 7 → firstRow k + rowCount k ≤ 14
-rows-within k h = leb-true _ _ (all-at (λ k. leb (firstRow k + rowCount k) 14) 7 refl k h)
-
 -- A kind has at most two labels.
 pub labels-few : (k : ℕ) → k < 7 → labelsOf k ≤ 2
 labels-few k h = rw (labels-count k h) (labelCount-le (kindOf k))
 
--- So do those of a kind as the code reads its index.
+-- The rows of a kind, as the code reads its index, stand in the table.
 pub kind-within : (table index : List (List ℕ)) (kind : ℕ) → KindIn table index kind → getD (getD index kind []) 0 0 + getD (getD index kind []) 1 0 ≤ 14
-kind-within table index kind ok = rw (ok .counts) (rows-within kind (ok .known))
+kind-within table index kind ok = rw (ok .counts) (leb-true _ _ (all-at (λ k. leb (firstRow k + rowCount k) 14) 7 refl kind (ok .known)))
 
 -- Row j of a kind as the code reads it.
 module _ (table index : List (List ℕ)) (kind : ℕ) (ok : KindIn table index kind) (j : ℕ) (h : j < getD (getD index kind []) 1 0) where

@@ -36,14 +36,14 @@ pub record Accepted (t : List ℕ) : Type 0 where
 
 -- A node that keeps its row, so that none of its fields is wrong: its kind is known, and it fits.
 module _ (A : ℕ) (s : List ℕ) (k : ℕ) (kept : breaks A s k ≡ false) where
-  right : (f : ℕ) → f < 4 → fieldWrong A s k f ≡ false
-  right = first-none (fieldWrong A s k) 4 .0 kept
+  none-wrong : (f : ℕ) → f < 4 → fieldWrong A s k f ≡ false
+  none-wrong = first-none (fieldWrong A s k) 4 .0 kept
 
   pub kept-known : getD s (k * 6) 0 < 7
-  kept-known = omega (arith, ltb-false 6 (getD s (k * 6) 0) (right 0 (omega arith)))
+  kept-known = omega (arith, ltb-false 6 (getD s (k * 6) 0) (none-wrong 0 (omega arith)))
 
   pub kept-fits : fits A k (nodeIn s k) ≡ true
-  kept-fits = &&-join (not-false (leftFits A k (nodeIn s k)) (right 2 (omega arith))) (not-false (rightFits k (nodeIn s k)) (right 3 (omega arith)))
+  kept-fits = &&-join (not-false (leftFits A k (nodeIn s k)) (none-wrong 2 (omega arith))) (not-false (rightFits k (nodeIn s k)) (none-wrong 3 (omega arith)))
 
 pub header-accepted : (t : List ℕ) → none (headerRows t) ≡ true → Header t
 unfolding headerRows
