@@ -1,15 +1,15 @@
 -- Demand 3: what satisfies the flat program is the extension of what satisfies the book, so the answer sets match, whatever formulas over the book's atoms stand beside.
 use mathlib.Core.Path.{_≡_, refl, sym, _∙_, ap, ap₂, subst}
 use mathlib.Core.Logic.{_↔_}
-use mathlib.Core.Bool.{true, _&&_}
+use mathlib.Core.Bool.{true, _&&_, and-assoc}
 use mathlib.Core.List.{List, [], _∷_, _++_, map}
-use Prim.Native.Nat.{ℕ, zero, suc, _+_}
+use Prim.Native.Nat.{ℕ, zero, suc, _+_, _<_}
 use native.Mathlib.Omega.{arith}
 use lib.ListN.{length, take, drop, length-map, take-append-drop}
 use lib.Seq.{drop-at, getD-take, length-take-le}
 use Rattle.logic.specs.declared.Value.the-variants.{Neither}
 use Rattle.logic.specs.Value.{trueHere}
-use Rattle.logic.specs.Formula.{Formula, Reading, value, satisfies, AllOver}
+use Rattle.logic.specs.Formula.{Formula, Reading, valueOf, value, satisfies, AllOver}
 use Rattle.logic.specs.Atoms.{Atoms, reading, hereOf}
 use Rattle.logic.specs.AnswerSet.{AnswerSet}
 use Rattle.logic.proofs.Bools.{&&-split, &&-join, iff-equal}
@@ -18,13 +18,13 @@ use Rattle.logic.proofs.Values.{up}
 use Rattle.logic.proofs.Formulas.{satisfies-append, satisfies-extended}
 use Rattle.logic.proofs.Sets.{inside-refl, hereOf-reading, length-reading}
 use Rattle.logic.proofs.Stable.{Stable, stable-iff, total-reading}
-use Rattle.theory.specs.Book.{Book, WellFormed, bookFormulas}
+use Rattle.theory.specs.Book.{Book, WellFormed, formulaAt, nodeFormulas, pairFormula, bookFormulas}
 use Rattle.program.specs.Program.{satisfiesProgram, programFormulas}
-use Rattle.program.proofs.Rules.{program-value}
-use Rattle.flat.specs.Flat.{flat}
+use Rattle.program.proofs.Rules.{program-value, allHold-append}
+use Rattle.flat.specs.Flat.{rulesFrom, pairRule, flat}
 use Rattle.flat.specs.Extension.{bookLabels, extend, Extends}
 use Rattle.flat.specs.OneToOne.{OneToOne}
-use Rattle.flat.proofs.Rules.{agree, rules-say}
+use Rattle.flat.proofs.Rules.{agree, rules-say, pairs-say}
 use Rattle.flat.proofs.Extensions.{agree-iff, extend-up, length-labels, length-extend, take-extend}
 
 take-reading : (n : ℕ) (T : Atoms) → take n (reading T T) ≡ reading (take n T) (take n T)
@@ -44,8 +44,14 @@ module _ (b : Book) (ok : WellFormed b) where
       let A = b .atoms in
       let I = take A J in
       let vs = map (value I) (bookLabels b) in
+      let low : (a : ℕ) → a < A → valueOf J a ≡ valueOf I a = λ a h. sym (getD-take A J a Neither h) in
+      let roots = map (formulaAt (nodeFormulas b)) (b .roots) in
+      let pairs = map pairFormula (b .pairs) in
       let say : satisfiesProgram J (flat b) ≡ (agree J A vs && satisfies I (bookFormulas b))
-      = rules-say A I J (λ a h. sym (getD-take A J a Neither h)) (b .roots) [] [] refl 0 A (b .nodes) (ok .nodes-fit) in
+      = allHold-append (valueOf J) (rulesFrom (b .roots) [] A (b .nodes)) (map pairRule (b .pairs))
+      ∙ ap₂ _&&_ (rules-say A I J low (b .roots) [] [] refl 0 A (b .nodes) (ok .nodes-fit)) (pairs-say A I J low (b .pairs) (ok .pairs-fit))
+      ∙ and-assoc (agree J A vs) (satisfies I roots) (satisfies I pairs)
+      ∙ ap (λ q. agree J A vs && q) (sym (satisfies-append I roots pairs)) in
       let labelled = agree-iff J A vs (omega (arith, length-labels b I)) in (
         λ h. let q = &&-split (agree J A vs) (satisfies I (bookFormulas b)) (sym say ∙ h) in
             (sym (take-append-drop A J) ∙ ap (λ l. I ++ l) (labelled .0 (q .0)), q .1),

@@ -1,4 +1,4 @@
--- What the flat program says of a reading J: its labels have their values and the roots are satisfied. By induction on the nodes, with J fixed.
+-- What the flat program says of a reading J: its labels have their values, and the roots and the pairs are satisfied. By induction on the nodes and on the pairs, with J fixed.
 use mathlib.Core.Path.{_≡_, refl, sym, _∙_, ap, ap₂}
 use mathlib.Core.Bool.{Bool, true, false, _&&_, and-true, and-assoc, Bool·beq}
 use mathlib.Core.List.{List, [], _∷_, _++_, map, map-append}
@@ -8,16 +8,17 @@ use lib.Dec.{leb, ltb}
 use lib.ListN.{getD, length, length-map, List·getD-map}
 use borrow.Author.Tests.{ltb-true}
 use Rattle.logic.specs.declared.Value.{Value}
-use Rattle.logic.specs.declared.Value.the-variants.{Neither}
-use Rattle.logic.specs.Value.{number, larger, trueHere}
+use Rattle.logic.specs.declared.Value.the-variants.{Neither, Both}
+use Rattle.logic.specs.Value.{number, smaller, larger, negation, trueHere}
 use Rattle.logic.specs.Formula.{Formula, falsum, neg, Reading, valueOf, value, satisfies}
 use Rattle.logic.proofs.Bools.{beq-sound, &&-split, &&-if}
-use Rattle.logic.proofs.Finite.{same, same-sound, agree₁}
-use Rattle.theory.specs.Book.{Kind, falseKind, trueKind, atomKind, notKind, andKind, orKind, impliesKind, Node, leftLimit, leftFits, rightFits, fits, allFit, say, formulaAt, formula, formulas}
+use Rattle.logic.proofs.Finite.{same, same-sound, agree₁, agree₂}
+use Rattle.theory.specs.Book.{Kind, falseKind, trueKind, atomKind, notKind, andKind, orKind, impliesKind, Node, Pair, leftLimit, leftFits, rightFits, fits, allFit, pairFits, pairsFit, say, formulaAt, formula, formulas, pairFormula}
+use Rattle.theory.proofs.PairLaws.{pair-below}
 use Rattle.program.specs.Rule.{allHold}
 use Rattle.program.proofs.Rules.{allHold-append}
 use Rattle.flat.specs.Table.{labelCount}
-use Rattle.flat.specs.Flat.{Term, constant, simplify, termAt, nodeRules, termOf, term, fact, facts, rulesFrom}
+use Rattle.flat.specs.Flat.{Term, constant, simplify, termAt, nodeRules, termOf, term, fact, facts, pairRule, rulesFrom}
 use Rattle.flat.specs.Extension.{meanings, labels, labelsFrom}
 use Rattle.flat.proofs.Simplify.{termValue, simplify-holds}
 use Rattle.flat.proofs.OneNode.{labelled, one-node}
@@ -37,6 +38,10 @@ agree-first J n v vs h = same-sound (valueOf J n) v (&&-split (same (valueOf J n
 -- A fact holds exactly if its head has the value 2.
 fact-value : (a : Value) → leb 2 (number (larger a Neither)) ≡ trueHere a
 fact-value = agree₁ Bool·beq beq-sound (λ a. leb 2 (number (larger a Neither))) trueHere refl
+
+-- A pair's rule holds exactly if not both has the value 2.
+pair-value : (a b : Value) → leb (number (smaller (smaller a (smaller b Both)) Both)) 0 ≡ trueHere (negation (smaller a b))
+pair-value = agree₂ Bool·beq beq-sound (λ a b. leb (number (smaller (smaller a (smaller b Both)) Both)) 0) (λ a b. trueHere (negation (smaller a b))) refl
 
 pub length-meanings : (k : Kind) (f g : Formula) → length (meanings k f g) ≡ labelCount k
 length-meanings falseKind f g = refl
@@ -109,3 +114,11 @@ module _ (A : ℕ) (I J : Reading) (low : (a : ℕ) → a < A → valueOf J a �
       ∙ &&-if now (allHold (valueOf J) rest) (later && asserted) (λ h. rules-say roots ts′ fs′ (sound h) (suc i) (next + labelCount (n .kind)) ns (fit .1))
       ∙ sym (and-assoc now later asserted)
       ∙ rw (map-append, agree-append J next, length-map, length-meanings)
+
+  -- The pairs' rules say what the pairs' formulas say.
+  pub pairs-say : (ps : List Pair) → pairsFit A ps ≡ true → allHold (valueOf J) (map pairRule ps) ≡ satisfies I (map pairFormula ps)
+  pairs-say [] ok = refl
+  pairs-say (p ∷ ps) ok =
+      let fit = &&-split (pairFits A p) (pairsFit A ps) ok in
+      let below = pair-below A p (fit .0) in
+      rw (low (p .first) (below .0), low (p .second) (below .1)) (ap₂ _&&_ (pair-value (valueOf I (p .first)) (valueOf I (p .second))) (pairs-say ps (fit .1)))

@@ -3,8 +3,8 @@ use mathlib.Core.Bool.{Bool, true, false, _||_, cond}
 use mathlib.Core.List.{List, [], _∷_, _++_, map}
 use Prim.Native.Nat.{ℕ, suc, _+_, _*_, _-_}
 use lib.ListN.{getD}
-use Rattle.refusal.specs.Limits.{mostAtoms, mostNodes}
-use Rattle.theory.specs.Book.{Kind, falseKind, trueKind, atomKind, notKind, andKind, orKind, impliesKind, Node, Book}
+use Rattle.refusal.specs.Limits.{mostAtoms, mostNodes, mostRoots, mostPairs}
+use Rattle.theory.specs.Book.{Kind, falseKind, trueKind, atomKind, notKind, andKind, orKind, impliesKind, Node, Pair, Book}
 use Rattle.program.specs.Rule.{RuleOf, Rule}
 use Rattle.program.specs.Program.{Program}
 use Rattle.flat.specs.Table.{Slot, x, y, L, M, rows, labelCount}
@@ -102,10 +102,22 @@ abbrev pub labelTotal : List Node → ℕ
 labelTotal [] = 0
 labelTotal (n ∷ ns) = labelCount (n .kind) + labelTotal ns
 
--- The flat program: labels are numbered from A upward in node order, and B counts all atoms.
+-- The rule of a pair: ← first, second.
+abbrev pub pairRule : Pair → Rule
+pairRule p = record { heads = []; positives = p .first ∷ p .second ∷ []; negatives = [] }
+
+-- The flat program: labels are numbered from A upward in node order, B counts all atoms, and after the rules of nodes and roots comes one for each pair.
 abbrev pub flat : Book → Program
-flat b = record { atoms = b .atoms; size = b .atoms + labelTotal (b .nodes); rules = rulesFrom (b .roots) [] (b .atoms) (b .nodes) }
+flat b = record {
+  atoms = b .atoms;
+  size = b .atoms + labelTotal (b .nodes);
+  rules = rulesFrom (b .roots) [] (b .atoms) (b .nodes) ++ map pairRule (b .pairs);
+}
 
 -- The most that B is within the limits of A and N, 1,024 + 2 * 1,023: node 0 has no earlier node and so takes no label, each other node takes at most two.
 abbrev pub largestB : ℕ
 largestB = mostAtoms + 2 * (mostNodes - 1)
+
+-- The most that K is within the limits of N, R and P, 6 * 1,023 + 256 + 128: node 0 has no rule either, each other node at most six, each root one fact and each pair one rule.
+abbrev pub largestK : ℕ
+largestK = 6 * (mostNodes - 1) + mostRoots + mostPairs

@@ -2,9 +2,9 @@
 use libc::STDIN_FILENO;
 use libc::STDOUT_FILENO;
 
-// The longest valid image has 6,672 bytes, so one byte more tells that the input is too long. 4,096 sets of two bytes fill the room.
+// The longest valid image has 7,184 bytes, so one byte more tells that the input is too long. 4,096 sets of two bytes fill the room.
 fn main() {
-    let mut theory = [0u8; 6673];
+    let mut theory = [0u8; 7185];
     let length = io::read_full(STDIN_FILENO, &mut theory);
     let mut room = [0u8; 8192];
     let answer = rulebook::rulebook_list_sets(&theory[..length], &mut room);

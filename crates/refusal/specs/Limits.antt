@@ -1,4 +1,4 @@
--- The limits of document 01, each named once.
+-- The limits of document 01, with the pairs of request 4, each named once.
 use Prim.Native.Nat.{ℕ}
 
 -- A of a book is at most this,
@@ -9,9 +9,13 @@ mostAtoms = 1024
 abbrev pub mostNodes : ℕ
 mostNodes = 1024
 
--- and R at most this.
+-- R at most this,
 abbrev pub mostRoots : ℕ
 mostRoots = 256
+
+-- and P at most this.
+abbrev pub mostPairs : ℕ
+mostPairs = 128
 
 -- B of a program is at most this,
 abbrev pub mostB : ℕ
@@ -19,7 +23,7 @@ mostB = 3072
 
 -- and K at most this.
 abbrev pub mostRules : ℕ
-mostRules = 6400
+mostRules = 6528
 
 -- A candidate that is tested has at most this many true atoms.
 abbrev pub mostTrue : ℕ

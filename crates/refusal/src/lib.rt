@@ -3,16 +3,18 @@ ghost use mathlib.Core.Path.{_≡_};
 ghost use Rattle.refusal.specs.Table.{refused, accepted, answer};
 ghost use Rattle.refusal.specs.Rows.{wrong, argumentRows, readingRows, candidateRows, countTrue};
 
-// The limits of document 01, as specs/Limits.antt names them.
+// The limits, as specs/Limits.antt names them.
 pub const MOST_ATOMS: usize = 1024;
 
 pub const MOST_NODES: usize = 1024;
 
 pub const MOST_ROOTS: usize = 256;
 
+pub const MOST_PAIRS: usize = 128;
+
 pub const MOST_B: usize = 3072;
 
-pub const MOST_RULES: usize = 6400;
+pub const MOST_RULES: usize = 6528;
 
 pub const MOST_TRUE: usize = 16;
 

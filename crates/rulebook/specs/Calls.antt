@@ -24,7 +24,7 @@ use Rattle.translation.specs.Outcome.{ruleTotal, translateRows, extendRows}
 use Rattle.stable.specs.Subset.{setOf}
 use Rattle.stable.specs.Listing.{setsOf, setsRows, listing}
 
--- Checking a theory: rows 1-7; the result is yes.
+-- Checking a theory: the theory's rows; the result is yes.
 abbrev pub checkTheory : (theory : List ℕ) → Answer
 checkTheory t = answer (theoryRows t) 1
 
@@ -32,7 +32,7 @@ checkTheory t = answer (theoryRows t) 1
 abbrev pub ChecksTheory : (theory : List ℕ) → Answer → Type 0
 ChecksTheory t a = a ≡ checkTheory t
 
--- Evaluating a theory: rows 1-7, 9, 10; the result is whether the reading satisfies it.
+-- Evaluating a theory: the theory's rows, 9, 10; the result is whether the reading satisfies it.
 abbrev pub evaluateTheoryRows : (theory reading : List ℕ) → List Row
 evaluateTheoryRows t r = theoryRows t ++ readingRows (atomCount t) r
 
@@ -62,7 +62,7 @@ evaluateProgram p r = answer (evaluateProgramRows p r) (yes (satisfiesProgram (r
 abbrev pub EvaluatesProgram : (program reading : List ℕ) → Answer → Type 0
 EvaluatesProgram p r a = a ≡ evaluateProgram p r
 
--- Translating: rows 1-7, 8; the result is K, and the bytes are the flat program's image.
+-- Translating: the theory's rows, 8; the result is K, and the bytes are the flat program's image.
 abbrev pub translateCallRows : (theory out : List ℕ) → List Row
 translateCallRows t out = theoryRows t ++ translateRows t (length out)
 
@@ -73,7 +73,7 @@ translate t out = outcome (answer (translateCallRows t out) (ruleTotal t)) (writ
 abbrev pub Translates : (theory out : List ℕ) → Answer → (left : List ℕ) → Type 0
 Translates t out a left = outcome a left ≡ translate t out
 
--- Extending: rows 1-7, 9, 10, 8; the result is B, and the bytes are the reading's and then each label's value.
+-- Extending: the theory's rows, 9, 10, 8; the result is B, and the bytes are the reading's and then each label's value.
 abbrev pub extendCallRows : (theory reading out : List ℕ) → List Row
 extendCallRows t r out = theoryRows t ++ extendRows t r (length out)
 
@@ -89,7 +89,7 @@ ExtendsReading t r out a left = outcome a left ≡ extend t r out
 abbrev pub row11True : (candidate : List ℕ) → Row
 row11True c = row11 (countTrue c) mostTrue
 
--- Testing a candidate of a theory: rows 1-7, 9, 10, 11; the result is whether it is an answer set.
+-- Testing a candidate of a theory: the theory's rows, 9, 10, 11; the result is whether it is an answer set.
 abbrev pub testTheoryRows : (theory candidate : List ℕ) → List Row
 testTheoryRows t c = theoryRows t ++ (candidateRows (atomCount t) c ++ (row11True c ∷ []))
 
@@ -111,7 +111,7 @@ testProgram p c = answer (testProgramRows p c) (yes (isAnswerSet (sizeOf p) (pro
 abbrev pub TestsProgram : (program candidate : List ℕ) → Answer → Type 0
 TestsProgram p c a = a ≡ testProgram p c
 
--- Listing: rows 1-7, 11, 8; the result is the number of answer sets, and the bytes are their numbers.
+-- Listing: the theory's rows, 11, 8; the result is the number of answer sets, and the bytes are their numbers.
 abbrev pub listSetsRows : (theory out : List ℕ) → List Row
 listSetsRows t out = theoryRows t ++ setsRows t out
 

@@ -8,7 +8,7 @@ use native.Mathlib.Omega.{arith}
 use lib.Dec.{ltb, leb, eqb}
 use lib.ListN.{length, getD, take, drop}
 use Rattle.refusal.specs.declared.Answer.{Answer}
-use Rattle.refusal.specs.Limits.{mostAtoms, mostNodes, mostB}
+use Rattle.refusal.specs.Limits.{mostAtoms, mostNodes, mostRoots, mostPairs, mostB, mostRules}
 use Rattle.refusal.specs.Table.{Row, accepted, yes, answer, none, unused, Exact}
 use Rattle.refusal.specs.First.{FirstAt}
 use Rattle.refusal.specs.Rows.{wrong, row10, argumentRows, readingRows}
@@ -27,13 +27,14 @@ use Rattle.logic.specs.AnswerSet.{AnswerSet, isAnswerSet, answerSets}
 use Rattle.logic.proofs.Values
 use Rattle.logic.proofs.Worlds
 use Rattle.logic.proofs.AnswerSets
-use Rattle.theory.specs.Book.{Book, nodeAt, impliesKind, WellFormed, formulaAt, nodeFormulas, bookFormulas}
+use Rattle.theory.specs.Book.{Pair, Book, nodeAt, impliesKind, pairFits, WellFormed, formulaAt, nodeFormulas, pairFormula, bookFormulas}
 use Rattle.theory.specs.BenchCases.{BenchCase, benchCases, atomsFrom, setsOf}
-use Rattle.theory.specs.Image.{atomCount, nodeCount, rootCount, nodeSection, rootSection, fieldWrong, breaks, rootIn, bookOf}
-use Rattle.theory.specs.Rows.{row6, row7, headerRows, theoryRows}
+use Rattle.theory.specs.Image.{atomCount, nodeCount, rootCount, pairCount, nodeSection, rootSection, pairSection, fieldWrong, breaks, rootIn, pairIn, bookOf}
+use Rattle.theory.specs.Rows.{row6, row7, row15, headerRows, theoryRows}
 use Rattle.theory.proofs.Rows as Rows
 use Rattle.theory.proofs.Rows.{numbered-theoryRows}
 use Rattle.theory.proofs.Accepted
+use Rattle.theory.proofs.PairLaws
 use Rattle.theory.proofs.BenchCases as books
 use Rattle.program.specs.Rule.{Rule, holds, ruleFormula}
 use Rattle.program.specs.Program.{Program, satisfiesProgram, programFormulas}
@@ -46,7 +47,7 @@ use Rattle.program.proofs.Rules
 use Rattle.program.proofs.Reading as ReadingBack
 use Rattle.program.proofs.Writing
 use Rattle.flat.specs.Table.{labelCount}
-use Rattle.flat.specs.Flat.{flat, largestB}
+use Rattle.flat.specs.Flat.{flat, largestB, largestK}
 use Rattle.flat.specs.Extension.{extend as extension, Extends, firstLabel}
 use Rattle.flat.specs.OneToOne.{OneToOne}
 use Rattle.flat.proofs.Sizes
@@ -54,6 +55,7 @@ use Rattle.flat.proofs.Extensions
 use Rattle.flat.proofs.Demand3
 use Rattle.flat.proofs.BenchCases as programs
 use Rattle.translation.specs.Outcome.{ruleTotal, translateRows, extendRows}
+use Rattle.translation.proofs.Sections
 use Rattle.translation.proofs.Writable
 use Rattle.translation.proofs.Bytes
 use Rattle.translation.proofs.Labels
@@ -150,10 +152,13 @@ row6-first : (t : List ℕ) → row6 t .applies ≡ true → let node = row6 t .
     FirstAt (breaks (atomCount t) (nodeSection t)) (nodeCount t) node × FirstAt (fieldWrong (atomCount t) (nodeSection t) node) 4 (row6 t .place % 8)
 row6-first = Rows.row6-first
 
--- The place of 7 is the first such root, that of 26 the first such rule, that of 10 the first such index.
+-- The place of 7 is the first such root, that of 15 the first such pair, that of 26 the first such rule, that of 10 the first such index.
 
 row7-first : (t : List ℕ) → row7 t .applies ≡ true → FirstAt (λ i. not (ltb (rootIn (rootSection t) i) (nodeCount t))) (rootCount t) (row7 t .place)
 row7-first t = first-is (λ i. not (ltb (rootIn (rootSection t) i) (nodeCount t))) (rootCount t)
+
+row15-first : (t : List ℕ) → row15 t .applies ≡ true → FirstAt (λ i. not (pairFits (atomCount t) (pairIn (pairSection t) i))) (pairCount t) (row15 t .place)
+row15-first t = first-is (λ i. not (pairFits (atomCount t) (pairIn (pairSection t) i))) (pairCount t)
 
 row26-first : (p : List ℕ) → row26 p .applies ≡ true → FirstAt (λ k. not (ruleKeeps (sizeOf p) (ruleSection p) k)) (ruleCount p) (row26 p .place)
 row26-first p = first-is (λ k. not (ruleKeeps (sizeOf p) (ruleSection p) k)) (ruleCount p)
@@ -176,7 +181,20 @@ size-reached = Sizes.size-reached
 accepted-size : (t : List ℕ) → none (theoryRows t) ≡ true → (flat (bookOf t) .size ≤ largestB) × (flat (bookOf t) .size ≤ mostB)
 accepted-size t ok = let h = Writable.accepted-size t ok in (h, omega arith)
 
--- Refusal 14, for a B over that limit, is gone: no call's answer has the number, and a row that refuses only such a B, behind those of the theory, changes no outcome.
+-- K of a book within the limits is at most 6 * 1,023 + 256 + 128, that is 6,522, which one such book reaches; so K of an accepted image is within the program image's limit.
+
+rules-bound : (b : Book) → WellFormed b → length (b .nodes) ≤ mostNodes → length (b .roots) ≤ mostRoots → length (b .pairs) ≤ mostPairs
+    → length (flat b .rules) ≤ largestK
+rules-bound = Sizes.rules-bound
+
+rules-reached : (b : Book) × WellFormed b × (length (b .nodes) ≡ mostNodes) × (length (b .roots) ≡ mostRoots) × (length (b .pairs) ≡ mostPairs)
+    × (length (flat b .rules) ≡ largestK)
+rules-reached = Sizes.rules-reached
+
+accepted-rules : (t : List ℕ) → none (theoryRows t) ≡ true → (ruleTotal t ≤ largestK) × (ruleTotal t ≤ mostRules)
+accepted-rules t ok = let h = Sections.accepted-total t ok in (h, omega arith)
+
+-- Refusal 14, for a B over its limit, is gone: no call's answer has the number, and a row that refuses only such a B, behind those of the theory, changes no outcome.
 
 never-14 : (t p r c o : List ℕ)
     → (checkTheory t .number ≡ 14 → ⊥) × (evaluateTheory t r .number ≡ 14 → ⊥) × (translate t o .answer .number ≡ 14 → ⊥)
@@ -205,7 +223,7 @@ module _ (t : List ℕ) (over : Row) (only : over .applies ≡ true → mostB < 
       outcome (answer rows (flat (bookOf t) .size)) (written rows (map number (extension (bookOf t) (readingOf r))) o) ≡ extend t r o
   extend-without r o = Outcome.outcome-idle (theoryRows t) over (extendRows t r (length o)) (flat (bookOf t) .size) (map number (extension (bookOf t) (readingOf r))) o (λ ok. Writable.over-idle t ok over only)
 
--- Demand 2: the four operations by number, truth is here-and-there's, answer sets are the equilibrium models.
+-- Demand 2: the four operations by number, truth is here-and-there's, answer sets are the equilibrium models. A book here is one with its pairs, as everywhere below.
 
 and-number : (x y : Value) → number (smaller x y) ≡ min (number x) (number y)
 and-number = Values.smaller-number
@@ -227,6 +245,10 @@ value-there = Worlds.value-there
 
 equilibrium : (n : ℕ) (Γ : List Formula) (T : Atoms) → AnswerSet n Γ T ↔ Equilibrium n Γ T
 equilibrium = AnswerSets.equilibrium-iff
+
+-- A pair means not both: its formula has the value 2 exactly if the smaller of the two atoms' values is 0.
+pair : (I : Reading) (p : Pair) → (value I (pairFormula p) ≡ Both) ↔ (min (number (valueOf I (p .first))) (number (valueOf I (p .second))) ≡ 0)
+pair = PairLaws.pair-iff
 
 rule : (J : Reading) (r : Rule) → (holds (valueOf J) r ≡ true) ↔ (value J (ruleFormula r) ≡ Both)
 rule = Rules.rule-iff
@@ -316,7 +338,7 @@ module _ (t o : List ℕ) (ok : none (translateCallRows t o) ≡ true) where
     bytes-only-one : (j : List ℕ) → evaluateProgram p j ≡ accepted 1 → take (atomCount t) j ≡ r → j ≡ x
     bytes-only-one = Bytes.bytes-only-one t theory-accepted p translate-wrote r reading-accepted x extend-wrote
 
--- P1 to P9: one table, one claim; and the same of their flat programs, labels dropped.
+-- P1 to P9, and three books with a pair: one table, one claim; and the same of their flat programs, labels dropped.
 
 cases : map (λ c. setsOf (c .theory)) benchCases ≡ map (λ c. c .sets) benchCases
 cases = books.benchCases-sets

@@ -7,7 +7,7 @@ use native.Mathlib.Nat.{zero-add}
 use native.Mathlib.Omega.{arith}
 use lib.ListN.{length, getD}
 use borrow.Author.Tests.{ltb-true, ltb-false, eqb-true, not-false}
-use Rattle.refusal.specs.Limits.{mostAtoms, mostNodes, mostRoots}
+use Rattle.refusal.specs.Limits.{mostAtoms, mostNodes, mostRoots, mostPairs}
 use Rattle.refusal.specs.Table.{none}
 use Rattle.refusal.proofs.Table.{none-at, none-split}
 use Rattle.refusal.proofs.First.{first-none}
@@ -15,24 +15,27 @@ use Rattle.logic.proofs.Bools.{&&-join, ||-split}
 use Rattle.wire.specs.Sequence.{upTo}
 use Rattle.wire.proofs.Laws.{allBelow-each}
 use Rattle.wire.proofs.Sequence.{length-upTo, getD-upTo}
-use Rattle.theory.specs.Book.{Node, WellFormed, leftFits, rightFits, fits}
-use Rattle.theory.specs.Image.{atomCount, nodeCount, rootCount, imageLength, nodeSection, rootSection, nodeIn, fieldWrong, breaks, rootIn, bookOf}
-use Rattle.theory.specs.Rows.{row6, row7, headerRows, theoryRows}
+use Rattle.theory.specs.Book.{Node, WellFormed, leftFits, rightFits, fits, pairFits}
+use Rattle.theory.specs.Image.{atomCount, nodeCount, rootCount, pairCount, imageLength, nodeSection, rootSection, pairSection, nodeIn, fieldWrong, breaks, rootIn, pairIn, bookOf}
+use Rattle.theory.specs.Rows.{row6, row7, row15, headerRows, theoryRows}
 use Rattle.theory.proofs.Books.{allFit-each}
+use Rattle.theory.proofs.PairLaws.{pairsFit-upTo}
 
--- What rows 1 to 5 leave.
+-- What the rows on the header leave.
 pub record Header (t : List ℕ) : Type 0 where
   pub long : 16 ≤ length t
   pub few-atoms : atomCount t ≤ mostAtoms
   pub few-nodes : nodeCount t ≤ mostNodes
   pub few-roots : rootCount t ≤ mostRoots
-  pub whole : length t ≡ imageLength (nodeCount t) (rootCount t)
+  pub few-pairs : pairCount t ≤ mostPairs
+  pub whole : length t ≡ imageLength (nodeCount t) (rootCount t) (pairCount t)
 
 -- What all rows leave.
 pub record Accepted (t : List ℕ) : Type 0 where
   pub header : Header t
   pub nodes-keep : (k : ℕ) → k < nodeCount t → breaks (atomCount t) (nodeSection t) k ≡ false
   pub roots-below : (i : ℕ) → i < rootCount t → rootIn (rootSection t) i < nodeCount t
+  pub pairs-fit : (i : ℕ) → i < pairCount t → pairFits (atomCount t) (pairIn (pairSection t) i) ≡ true
 
 -- A node that keeps its row, so that none of its fields is wrong: its kind is known, and it fits.
 module _ (A : ℕ) (s : List ℕ) (k : ℕ) (kept : breaks A s k ≡ false) where
@@ -51,23 +54,26 @@ header-accepted t h =
     let clear = none-at (headerRows t) h in
     let limits = ||-split _ _ (clear 1) in
     let others = ||-split _ _ (limits .1) in
+    let last = ||-split _ _ (others .1) in
     record {
       long = ltb-false _ _ (clear 0);
       few-atoms = ltb-false _ _ (limits .0);
       few-nodes = ltb-false _ _ (others .0);
-      few-roots = ltb-false _ _ (others .1);
-      whole = eqb-true _ _ (not-false _ (clear 4));
+      few-roots = ltb-false _ _ (last .0);
+      few-pairs = ltb-false _ _ (last .1);
+      whole = eqb-true _ _ (not-false _ (clear 3));
     }
 
 pub accepted : (t : List ℕ) → none (theoryRows t) ≡ true → Accepted t
 unfolding theoryRows
 accepted t h =
-    let parts = none-split (headerRows t) (row6 t ∷ row7 t ∷ []) h in
-    let clear = none-at (row6 t ∷ row7 t ∷ []) (parts .1) in
+    let parts = none-split (headerRows t) (row6 t ∷ row7 t ∷ row15 t ∷ []) h in
+    let clear = none-at (row6 t ∷ row7 t ∷ row15 t ∷ []) (parts .1) in
     record {
       header = header-accepted t (parts .0);
       nodes-keep = first-none _ _ .0 (clear 0);
       roots-below = λ i l. ltb-true _ _ (not-false _ (first-none _ _ .0 (clear 1) i l));
+      pairs-fit = λ i l. not-false _ (first-none _ _ .0 (clear 2) i l);
     }
 
 pub accepted-wellFormed : (t : List ℕ) → none (theoryRows t) ≡ true → WellFormed (bookOf t)
@@ -85,4 +91,5 @@ accepted-wellFormed t h =
       roots-below = allBelow-each (length ns) rs
           (λ i l. let b : i < rootCount t = omega (arith, length-upTo (rootIn (rootSection t)) (rootCount t)) in
           rw (counted, getD-upTo (rootIn (rootSection t)) (rootCount t) i 0 b) (a .roots-below i b));
+      pairs-fit = pairsFit-upTo (atomCount t) (pairIn (pairSection t)) (pairCount t) (a .pairs-fit);
     }

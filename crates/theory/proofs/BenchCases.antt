@@ -1,4 +1,4 @@
--- P1 to P9 have the answer sets of their table, and are well formed: both computed from the definitions.
+-- The bench cases have the answer sets of their table, and are well formed: both computed from the definitions.
 use mathlib.Core.Path.{_≡_, refl}
 use mathlib.Core.Logic.{⊎-elim}
 use mathlib.Core.Bool.{Bool, true, _&&_}
@@ -6,7 +6,7 @@ use mathlib.Core.List.{List, [], _∷_, map, List·Memᴰ, List·Memᴰ·cases-c
 use lib.ListN.{length}
 use Rattle.logic.proofs.Bools.{&&-split}
 use Rattle.wire.specs.Wire.{allBelow}
-use Rattle.theory.specs.Book.{allFit, WellFormed}
+use Rattle.theory.specs.Book.{allFit, pairsFit, WellFormed}
 use Rattle.theory.specs.BenchCases.{BenchCase, benchCases, setsOf}
 
 -- The one claim over the one table.
@@ -28,5 +28,7 @@ pub case-wellFormed : (c : BenchCase) → List·Memᴰ c benchCases → WellForm
 case-wellFormed c m =
     let fit : BenchCase → Bool = λ c. allFit (c .theory .atoms) 0 (c .theory .nodes) in
     let below : BenchCase → Bool = λ c. allBelow (length (c .theory .nodes)) (c .theory .roots) in
-    let both = &&-split (fit c) (below c) (map-at (λ c. fit c && below c) (λ c. true) benchCases refl c m) in
-    record { nodes-fit = both .0; roots-below = both .1 }
+    let smaller-first : BenchCase → Bool = λ c. pairsFit (c .theory .atoms) (c .theory .pairs) in
+    let all = &&-split (fit c) (below c && smaller-first c) (map-at (λ c. fit c && (below c && smaller-first c)) (λ c. true) benchCases refl c m) in
+    let others = &&-split (below c) (smaller-first c) (all .1) in
+    record { nodes-fit = all .0; roots-below = others .0; pairs-fit = others .1 }

@@ -1,4 +1,5 @@
 pub mod Books
+pub mod PairLaws
 pub mod BenchCases
 pub mod Images
 pub mod Rows

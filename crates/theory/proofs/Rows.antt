@@ -1,4 +1,4 @@
--- Rows 1 to 7 have numbers of their own, computed from the definitions; and what the place of row 6 names, by the laws of the first such number. Assumes nothing.
+-- A theory's rows have numbers of their own, computed from the definitions; and what the place of row 6 names, by the laws of the first such number. Assumes nothing.
 use mathlib.Core.Path.{_≡_, refl}
 use mathlib.Core.Bool.{true}
 use mathlib.Core.List.{List}

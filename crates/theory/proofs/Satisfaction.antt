@@ -1,9 +1,9 @@
--- Laws of satisfaction by the nodes' values: a book is satisfied where no root's byte differs from 2, since each root's byte is the value of its formula.
-use mathlib.Core.Path.{_≡_, refl, sym, ap, _∙_}
+-- Laws of satisfaction by the nodes' values: a book is satisfied where no root's byte differs from 2, since each root's byte is the value of its formula, and no pair's formula does.
+use mathlib.Core.Path.{_≡_, refl, sym, ap, ap₂, _∙_}
 use mathlib.Core.Logic.{_↔_, ⊎-elim}
 use mathlib.Core.Bool.{Bool, true, not, _&&_}
 use mathlib.Core.List.{List, [], _∷_, _++_, map}
-use Prim.Native.Nat.{ℕ, zero, suc, _<_}
+use Prim.Native.Nat.{ℕ, zero, suc, _≤_, _<_}
 use native.Mathlib.Nat.{eq-or-lt-of-le}
 use native.Mathlib.Omega.{arith}
 use lib.Dec.{eqb}
@@ -20,8 +20,8 @@ use Rattle.logic.proofs.Formulas.{satisfies-append}
 use Rattle.wire.specs.Wire.{over}
 use Rattle.wire.specs.Sequence.{upTo}
 use Rattle.wire.proofs.Sequence.{length-upTo, map-upTo}
-use Rattle.theory.specs.Book.{formulaAt, nodeFormulas, bookFormulas}
-use Rattle.theory.specs.Image.{nodeCount, rootCount, rootSection, rootIn, nodeIn, nodeSection, bookOf}
+use Rattle.theory.specs.Book.{formulaAt, nodeFormulas, pairFormula, bookFormulas}
+use Rattle.theory.specs.Image.{nodeCount, rootCount, pairCount, nodeSection, rootSection, pairSection, nodeIn, rootIn, pairIn, bookOf}
 use Rattle.theory.specs.NodeValues.{nodeValues}
 use Rattle.theory.proofs.Books.{length-formulas}
 use Rattle.theory.proofs.Accepted.{Accepted}
@@ -67,13 +67,22 @@ number-at I fs old k h =
     ∙ List·getD-map number vs k Neither
     ∙ ap number (List·getD-map (value I) fs k falsum)
 
--- A scan of the roots' bytes says whether a reading satisfies the book of an accepted image.
-pub satisfies-roots : (t old : List ℕ) (I : Reading) → Accepted t →
-    let R : ℕ = rootCount t in
-    eqb (first (λ i. not (eqb (getD (over (map number (nodeValues (bookOf t) I)) old) (rootIn (rootSection t) i) 0) 2)) R) R
-    ≡ satisfies I (bookFormulas (bookOf t))
+-- The first root whose byte, among the values written over `old`, is not 2,
+abbrev pub untrueRoot : (t old : List ℕ) → Reading → ℕ
+untrueRoot t old I = first (λ i. not (eqb (getD (over (map number (nodeValues (bookOf t) I)) old) (rootIn (rootSection t) i) 0) 2)) (rootCount t)
+
+pub untrueRoot-le : (t old : List ℕ) (I : Reading) → untrueRoot t old I ≤ rootCount t
+untrueRoot-le t old I = first-le _ (rootCount t)
+
+-- and the first pair whose formula is not 2.
+abbrev pub untruePair : (t : List ℕ) → Reading → ℕ
+untruePair t I = first (λ i. not (trueHere (value I (pairFormula (pairIn (pairSection t) i))))) (pairCount t)
+
+-- A scan of the roots' bytes says whether a reading satisfies what the roots of an accepted image assert,
+roots-scanned : (t old : List ℕ) (I : Reading) → Accepted t
+    → eqb (untrueRoot t old I) (rootCount t) ≡ satisfies I (map (formulaAt (nodeFormulas (bookOf t))) (bookOf t .roots))
 unfolding bookOf
-satisfies-roots t old I a =
+roots-scanned t old I a =
     let fs : List Formula = nodeFormulas (bookOf t) in
     let long : length fs ≡ nodeCount t = omega (arith, length-formulas [] (bookOf t .nodes), length-upTo (nodeIn (nodeSection t)) (nodeCount t)) in
     rw (map-upTo (formulaAt fs) (rootIn (rootSection t)) (rootCount t))
@@ -81,3 +90,17 @@ satisfies-roots t old I a =
     (λ i l.
     let root : ℕ = rootIn (rootSection t) i in
     ap not (ap (λ b. eqb b 2) (number-at I fs old root (omega (arith, a .roots-below i l))) ∙ eqb-number (value I (formulaAt fs root)))))
+
+-- a scan of the pairs, whether it satisfies what they assert,
+pairs-scanned : (t : List ℕ) (I : Reading) → eqb (untruePair t I) (pairCount t) ≡ satisfies I (map pairFormula (bookOf t .pairs))
+unfolding bookOf
+pairs-scanned t I =
+    rw (map-upTo pairFormula (pairIn (pairSection t)) (pairCount t))
+    (satisfies-first I (λ i. pairFormula (pairIn (pairSection t) i)) _ (pairCount t) (λ i l. refl))
+
+-- and both, whether it satisfies the book.
+pub satisfies-book : (t old : List ℕ) (I : Reading) → Accepted t
+    → (eqb (untrueRoot t old I) (rootCount t) && eqb (untruePair t I) (pairCount t)) ≡ satisfies I (bookFormulas (bookOf t))
+satisfies-book t old I a =
+    ap₂ _&&_ (roots-scanned t old I a) (pairs-scanned t I)
+    ∙ sym (satisfies-append I (map (formulaAt (nodeFormulas (bookOf t))) (bookOf t .roots)) (map pairFormula (bookOf t .pairs)))

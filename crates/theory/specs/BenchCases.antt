@@ -1,4 +1,4 @@
--- The bench cases P1 to P9: each book beside its answer sets.
+-- The bench cases P1 to P9, and three with a pair: each book beside its answer sets.
 use mathlib.Core.Bool.{cond}
 use mathlib.Core.List.{List, [], _∷_, map}
 use Prim.Native.Nat.{ℕ, suc}
@@ -19,7 +19,11 @@ abbrev node : Kind → ℕ → ℕ → Node
 node k l r = record { kind = k; left = l; right = r }
 
 abbrev book : ℕ → List Node → List ℕ → Book
-book A ns rs = record { atoms = A; nodes = ns; roots = rs }
+book A ns rs = record { atoms = A; nodes = ns; roots = rs; pairs = [] }
+
+-- A book over p and q beside which q is the strong negation of p.
+abbrev paired : List Node → List ℕ → Book
+paired ns rs = record { atoms = 2; nodes = ns; roots = rs; pairs = record { first = 0; second = 1 } ∷ [] }
 
 abbrev p : Node
 p = node atomKind 0 0
@@ -60,4 +64,12 @@ benchCases =
     ((0 ∷ []) ∷ (1 ∷ []) ∷ []) ∷
     -- P9: p or q; q implies p; p implies q
     case (book 2 (p ∷ q ∷ node orKind 0 1 ∷ node impliesKind 1 0 ∷ node impliesKind 0 1 ∷ []) (2 ∷ 3 ∷ 4 ∷ [])) ((0 ∷ 1 ∷ []) ∷ []) ∷
+    -- the pair alone
+    case (paired [] []) ([] ∷ []) ∷
+    -- P9 with the pair
+    case (paired (p ∷ q ∷ node orKind 0 1 ∷ node impliesKind 1 0 ∷ node impliesKind 0 1 ∷ []) (2 ∷ 3 ∷ 4 ∷ [])) [] ∷
+    -- p or not p; q or not q; with the pair
+    case
+    (paired (p ∷ q ∷ node notKind 0 0 ∷ node orKind 0 2 ∷ node notKind 1 0 ∷ node orKind 1 4 ∷ []) (3 ∷ 5 ∷ []))
+    ([] ∷ (0 ∷ []) ∷ (1 ∷ []) ∷ []) ∷
     []

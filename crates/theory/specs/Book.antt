@@ -1,4 +1,4 @@
--- A rule book: atoms, nodes and roots, and the formulas that it stands for.
+-- A rule book: atoms, nodes, roots and pairs, and the formulas that it stands for.
 use mathlib.Core.Path.{_≡_}
 use mathlib.Core.Bool.{Bool, true, _&&_}
 use mathlib.Core.List.{List, [], _∷_, _++_, map}
@@ -22,11 +22,17 @@ pub record Node : Type 0 where
 abbrev pub nodeAt : List Node → ℕ → Node
 nodeAt ns k = getD ns k (record { kind = falseKind; left = 0; right = 0 })
 
--- A book has atoms 0 to A - 1, nodes and roots.
+-- A pair: an atom and its strong negation, the smaller number first.
+pub record Pair : Type 0 where
+  pub first : ℕ
+  pub second : ℕ
+
+-- A book has atoms 0 to A - 1, nodes, roots and pairs.
 pub record Book : Type 0 where
   pub atoms : ℕ
   pub nodes : List Node
   pub roots : List ℕ
+  pub pairs : List Pair
 
 -- What left has to be below, in node k of a book with A atoms: 0 is below 1, an atom below A, an earlier node below k.
 abbrev pub leftLimit : (A k : ℕ) → Kind → ℕ
@@ -65,10 +71,20 @@ abbrev pub allFit : (A k : ℕ) → List Node → Bool
 allFit A k [] = true
 allFit A k (n ∷ ns) = fits A k n && allFit A (suc k) ns
 
--- A book whose nodes keep to their rows and whose roots are nodes.
+-- A pair is of two atoms below A, the smaller first.
+abbrev pub pairFits : (A : ℕ) → Pair → Bool
+pairFits A p = ltb (p .first) (p .second) && ltb (p .second) A
+
+-- So is each of a list.
+abbrev pub pairsFit : (A : ℕ) → List Pair → Bool
+pairsFit A [] = true
+pairsFit A (p ∷ ps) = pairFits A p && pairsFit A ps
+
+-- A book whose nodes keep to their rows, whose roots are nodes, and whose pairs are of its atoms, the smaller first.
 pub record WellFormed (b : Book) : Type 0 where
   pub nodes-fit : allFit (b .atoms) 0 (b .nodes) ≡ true
   pub roots-below : allBelow (length (b .nodes)) (b .roots) ≡ true
+  pub pairs-fit : pairsFit (b .atoms) (b .pairs) ≡ true
 
 -- What a kind says of the atom that left names, or of the formulas of left and right.
 abbrev pub say : Kind → (left : ℕ) → (f g : Formula) → Formula
@@ -97,6 +113,10 @@ formulas fs (n ∷ ns) = formulas (fs ++ (formula fs n ∷ [])) ns
 abbrev pub nodeFormulas : Book → List Formula
 nodeFormulas b = formulas [] (b .nodes)
 
--- The formulas that a book asserts: one for each root.
+-- What a pair means: not both.
+abbrev pub pairFormula : Pair → Formula
+pairFormula p = neg (conj (atom (p .first)) (atom (p .second)))
+
+-- The formulas that a book asserts: one for each root, and then one for each pair.
 abbrev pub bookFormulas : Book → List Formula
-bookFormulas b = map (formulaAt (nodeFormulas b)) (b .roots)
+bookFormulas b = map (formulaAt (nodeFormulas b)) (b .roots) ++ map pairFormula (b .pairs)

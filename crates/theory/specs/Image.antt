@@ -7,9 +7,9 @@ use lib.ListN.{getD, drop}
 use Rattle.refusal.specs.First.{first}
 use Rattle.wire.specs.Wire.{u16At}
 use Rattle.wire.specs.Sequence.{upTo}
-use Rattle.theory.specs.Book.{Kind, falseKind, trueKind, atomKind, notKind, andKind, orKind, impliesKind, Node, Book, leftFits, rightFits}
+use Rattle.theory.specs.Book.{Kind, falseKind, trueKind, atomKind, notKind, andKind, orKind, impliesKind, Node, Pair, Book, leftFits, rightFits}
 
--- A, N and R of the header.
+-- A, N, R and P of the header.
 abbrev pub atomCount : List ℕ → ℕ
 atomCount t = u16At t 0
 
@@ -19,19 +19,28 @@ nodeCount t = u16At t 2
 abbrev pub rootCount : List ℕ → ℕ
 rootCount t = u16At t 4
 
--- Nodes start at 16, roots at 16 + 6N, and the image is exactly 16 + 6N + 2R bytes long.
+abbrev pub pairCount : List ℕ → ℕ
+pairCount t = u16At t 6
+
+-- Nodes start at 16, roots at 16 + 6N, pairs at 16 + 6N + 2R, and the image is exactly 16 + 6N + 2R + 4P bytes long.
 abbrev pub rootsStart : (N : ℕ) → ℕ
 rootsStart N = 16 + N * 6
 
-abbrev pub imageLength : (N R : ℕ) → ℕ
-imageLength N R = rootsStart N + R * 2
+abbrev pub pairsStart : (N R : ℕ) → ℕ
+pairsStart N R = rootsStart N + R * 2
 
--- The part of the image that starts at the nodes' offset, and the part that starts at the roots'.
+abbrev pub imageLength : (N R P : ℕ) → ℕ
+imageLength N R P = pairsStart N R + P * 4
+
+-- The part of the image that starts at the nodes' offset, the part that starts at the roots', and the part that starts at the pairs'.
 abbrev pub nodeSection : List ℕ → List ℕ
 nodeSection t = drop 16 t
 
 abbrev pub rootSection : List ℕ → List ℕ
 rootSection t = drop (rootsStart (nodeCount t)) t
+
+abbrev pub pairSection : List ℕ → List ℕ
+pairSection t = drop (pairsStart (nodeCount t) (rootCount t)) t
 
 -- The kind of a node's first byte; row 6 refuses a byte over 6.
 abbrev pub kindOf : ℕ → Kind
@@ -71,10 +80,15 @@ breaks A s k = ltb (firstWrong A s k) 4
 abbrev pub rootIn : List ℕ → ℕ → ℕ
 rootIn s i = u16At s (i * 2)
 
+-- Pair i of the pairs' section.
+abbrev pub pairIn : List ℕ → ℕ → Pair
+pairIn s i = record { first = u16At s (i * 4); second = u16At s (i * 4 + 2) }
+
 -- The book of an image.
 unfoldable pub bookOf : List ℕ → Book
 bookOf t = record {
   atoms = atomCount t;
   nodes = upTo (nodeIn (nodeSection t)) (nodeCount t);
   roots = upTo (rootIn (rootSection t)) (rootCount t);
+  pairs = upTo (pairIn (pairSection t)) (pairCount t);
 }

@@ -1,4 +1,4 @@
--- Rows 1 to 7 of the refusal table: what a theory image is refused for.
+-- Rows 1, 2, 4 to 7 and 15 of the refusal table: what a theory image is refused for.
 use mathlib.Core.Bool.{not, _||_}
 use mathlib.Core.List.{List, [], _∷_, _++_}
 use Prim.Native.Nat.{ℕ}
@@ -6,25 +6,22 @@ use lib.Dec.{eqb, ltb}
 use lib.ListN.{length}
 use Rattle.refusal.specs.Table.{Row}
 use Rattle.refusal.specs.First.{firstPlaced, firstSuch}
-use Rattle.refusal.specs.Limits.{mostAtoms, mostNodes, mostRoots}
-use Rattle.wire.specs.Wire.{u16At, u32At}
-use Rattle.theory.specs.Image.{atomCount, nodeCount, rootCount, rootsStart, imageLength, nodeSection, rootSection, wrongPlace, breaks, rootIn}
+use Rattle.refusal.specs.Limits.{mostAtoms, mostNodes, mostRoots, mostPairs}
+use Rattle.wire.specs.Wire.{u32At}
+use Rattle.theory.specs.Book.{pairFits}
+use Rattle.theory.specs.Image.{atomCount, nodeCount, rootCount, pairCount, rootsStart, imageLength, nodeSection, rootSection, pairSection, wrongPlace, breaks, rootIn, pairIn}
 
 -- Row 1: the theory is shorter than 16 bytes.
 abbrev pub row1 : List ℕ → Row
 row1 t = record { number = 1; applies = ltb (length t) 16; place = 0 }
 
--- Row 2: A, N or R is over its limit.
+-- Row 2: A, N, R or P is over its limit.
 abbrev pub row2 : List ℕ → Row
 row2 t = record {
   number = 2;
-  applies = ltb mostAtoms (atomCount t) || (ltb mostNodes (nodeCount t) || ltb mostRoots (rootCount t));
+  applies = ltb mostAtoms (atomCount t) || (ltb mostNodes (nodeCount t) || (ltb mostRoots (rootCount t) || ltb mostPairs (pairCount t)));
   place = 0;
 }
-
--- Row 3: bytes 6-7 are not zero.
-abbrev pub row3 : List ℕ → Row
-row3 t = record { number = 3; applies = not (eqb (u16At t 6) 0); place = 0 }
 
 -- Row 4: an offset differs.
 abbrev pub row4 : List ℕ → Row
@@ -34,8 +31,8 @@ row4 t = record { number = 4; applies = not (eqb (u32At t 8) 16) || not (eqb (u3
 abbrev pub row5 : List ℕ → Row
 row5 t = record {
   number = 5;
-  applies = not (eqb (length t) (imageLength (nodeCount t) (rootCount t)));
-  place = imageLength (nodeCount t) (rootCount t);
+  applies = not (eqb (length t) (imageLength (nodeCount t) (rootCount t) (pairCount t)));
+  place = imageLength (nodeCount t) (rootCount t) (pairCount t);
 }
 
 -- Row 6: a node breaks its row, or its zero byte is not 0; its place is eight times the first such node plus its first wrong field.
@@ -46,10 +43,14 @@ row6 t = firstPlaced 6 (wrongPlace (atomCount t) (nodeSection t)) (breaks (atomC
 abbrev pub row7 : List ℕ → Row
 row7 t = firstSuch 7 (λ i. not (ltb (rootIn (rootSection t) i) (nodeCount t))) (rootCount t)
 
+-- Row 15: a pair is not of two atoms below A, the smaller first; its place is the first such pair's index.
+abbrev pub row15 : List ℕ → Row
+row15 t = firstSuch 15 (λ i. not (pairFits (atomCount t) (pairIn (pairSection t) i))) (pairCount t)
+
 -- The rows on the header.
 unfoldable pub headerRows : List ℕ → List Row
-headerRows t = row1 t ∷ row2 t ∷ row3 t ∷ row4 t ∷ row5 t ∷ []
+headerRows t = row1 t ∷ row2 t ∷ row4 t ∷ row5 t ∷ []
 
 -- The rows of a theory image, in the order tested.
 unfoldable pub theoryRows : List ℕ → List Row
-theoryRows t = headerRows t ++ row6 t ∷ row7 t ∷ []
+theoryRows t = headerRows t ++ row6 t ∷ row7 t ∷ row15 t ∷ []

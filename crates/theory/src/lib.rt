@@ -1,20 +1,20 @@
-//! The theory image: whether it is one, and what its nodes and roots are worth under a reading.
+//! The theory image: whether it is one, and what its nodes, roots and pairs are worth under a reading.
 use logic::Value;
 use refusal::Answer;
 ghost use mathlib.Core.Path.{_≡_};
-ghost use mathlib.Core.Bool.{true, not, _||_};
+ghost use mathlib.Core.Bool.{true, not, _&&_, _||_};
 ghost use mathlib.Core.List.{map};
 ghost use Prim.Native.Nat.{ℕ, _+_, _*_, _≤_, _<_};
 ghost use lib.Dec.{eqb, ltb};
 ghost use lib.ListN.{length, getD};
 ghost use Rattle.refusal.specs.Table.{answer, none};
 ghost use Rattle.refusal.specs.First.{first};
-ghost use Rattle.refusal.specs.Limits.{mostAtoms, mostNodes, mostRoots};
-ghost use Rattle.logic.specs.Value.{number};
-ghost use Rattle.logic.specs.Formula.{readingOf, valueOf, satisfies};
+ghost use Rattle.refusal.specs.Limits.{mostAtoms, mostNodes, mostRoots, mostPairs};
+ghost use Rattle.logic.specs.Value.{number, trueHere};
+ghost use Rattle.logic.specs.Formula.{readingOf, valueOf, value, satisfies};
 ghost use Rattle.wire.specs.Wire.{u32At, over};
-ghost use Rattle.theory.specs.Book.{leftLimit, rightLimit, fits, bookFormulas};
-ghost use Rattle.theory.specs.Image.{atomCount, nodeCount, rootCount, rootsStart, kindOf, nodeIn, firstWrong, breaks, rootIn, bookOf};
+ghost use Rattle.theory.specs.Book.{leftLimit, rightLimit, fits, pairFits, pairFormula, bookFormulas};
+ghost use Rattle.theory.specs.Image.{atomCount, nodeCount, rootCount, pairCount, rootsStart, pairsStart, kindOf, nodeIn, firstWrong, breaks, rootIn, pairIn, bookOf};
 ghost use Rattle.theory.specs.Rows.{headerRows, theoryRows};
 ghost use Rattle.theory.specs.NodeValues.{valueFrom, valuesTo, nodeValues};
 
@@ -42,6 +42,14 @@ pub fn roots(theory: &[u8]) -> usize
     wire::u16_at(theory, 4)
 }
 
+// P of the header.
+pub fn pairs(theory: &[u8]) -> usize
+    requires { ⌜ 16 ≤ length (now theory) ⌝ }
+    ensures { λ r. ⌜ (r ≡ pairCount (now (theory .entry))) × (r < 65536) ⌝ }
+{
+    wire::u16_at(theory, 6)
+}
+
 // Where the roots start.
 pub fn roots_start(theory: &[u8]) -> usize
     requires { ⌜ 16 ≤ length (now theory) ⌝ }
@@ -50,14 +58,25 @@ pub fn roots_start(theory: &[u8]) -> usize
     16 + nodes(theory) * 6
 }
 
-// Whether A, N or R is over its limit.
-fn over_limits(atoms: usize, nodes: usize, roots: usize) -> bool
-    ensures { λ r. ⌜ r ≡ (ltb mostAtoms atoms || (ltb mostNodes nodes || ltb mostRoots roots)) ⌝ }
+// Where the pairs start.
+pub fn pairs_start(theory: &[u8]) -> usize
+    requires { ⌜ 16 ≤ length (now theory) ⌝ }
+    ensures { λ r. ⌜ (r ≡ pairsStart (nodeCount (now (theory .entry))) (rootCount (now (theory .entry)))) × (r < pairsStart 65536 65536) ⌝ }
+{
+    roots_start(theory) + roots(theory) * 2
+}
+
+// Whether A, N, R or P is over its limit.
+fn over_limits(atoms: usize, nodes: usize, roots: usize, pairs: usize) -> bool
+    ensures { λ r. ⌜ r ≡ (ltb mostAtoms atoms || (ltb mostNodes nodes || (ltb mostRoots roots || ltb mostPairs pairs))) ⌝ }
 {
     if refusal::MOST_ATOMS < atoms {
         return true;
     }
-    refusal::MOST_NODES < nodes || refusal::MOST_ROOTS < roots
+    if refusal::MOST_NODES < nodes {
+        return true;
+    }
+    refusal::MOST_ROOTS < roots || refusal::MOST_PAIRS < pairs
 }
 
 // Whether an offset differs, where the roots are to start at `start`.
@@ -68,25 +87,21 @@ fn offsets_differ(theory: &[u8], start: usize) -> bool
     wire::u32_at(theory, 8) != 16 || wire::u32_at(theory, 12) != start
 }
 
-// Rows 1 to 5.
+// The rows on the header.
 fn header(theory: &[u8]) -> Answer
     ensures { λ r. ⌜ r ≡ answer (headerRows (now (theory .entry))) 0 ⌝ }
 {
     if theory.len() < 16 {
         return refusal::refuse(1, 0);
     }
-    let root_count = roots(theory);
-    if over_limits(atoms(theory), nodes(theory), root_count) {
+    let pair_count = pairs(theory);
+    if over_limits(atoms(theory), nodes(theory), roots(theory), pair_count) {
         return refusal::refuse(2, 0);
     }
-    if wire::u16_at(theory, 6) != 0 {
-        return refusal::refuse(3, 0);
-    }
-    let start = roots_start(theory);
-    if offsets_differ(theory, start) {
+    if offsets_differ(theory, roots_start(theory)) {
         return refusal::refuse(4, 0);
     }
-    let wanted = start + root_count * 2;
+    let wanted = pairs_start(theory) + pair_count * 4;
     if theory.len() != wanted {
         return refusal::refuse(5, wanted);
     }
@@ -166,7 +181,31 @@ fn first_root_not_below(roots: &[u8], nodes: usize, count: usize) -> usize
     i
 }
 
-// Rows 1 to 7: the header, then the nodes, then the roots.
+// Whether a pair is of two of the atoms, the smaller first.
+fn pair_fits(first: usize, second: usize, atoms: usize) -> bool
+    ensures { λ r. ⌜ r ≡ (ltb first second && ltb second atoms) ⌝ }
+{
+    first < second && second < atoms
+}
+
+// The index of the first pair that is not, and the count where each is.
+fn first_bad_pair(pairs: &[u8], atoms: usize, count: usize) -> usize
+    requires { ⌜ count * 4 ≤ length (now pairs) ⌝ }
+    ensures { λ r. ⌜ r ≡ first (λ i. not (pairFits atoms (pairIn (now (pairs .entry)) i))) count ⌝ }
+{
+    let mut i = 0;
+    while i < count {
+        let first = wire::u16_at(pairs, i * 4);
+        let second = wire::u16_at(pairs, i * 4 + 2);
+        if !pair_fits(first, second, atoms) {
+            return i;
+        }
+        i += 1;
+    }
+    i
+}
+
+// All rows: the header, then the nodes, then the roots, then the pairs.
 pub fn check(theory: &[u8]) -> Answer
     ensures { λ r. ⌜ r ≡ answer (theoryRows (now (theory .entry))) 1 ⌝ }
 {
@@ -187,6 +226,11 @@ pub fn check(theory: &[u8]) -> Answer
     let root = first_root_not_below(&theory[start..], node_count, root_count);
     if root < root_count {
         return refusal::refuse(7, root);
+    }
+    let pair_count = pairs(theory);
+    let pair = first_bad_pair(&theory[pairs_start(theory)..], atoms(theory), pair_count);
+    if pair < pair_count {
+        return refusal::refuse(15, pair);
     }
     refusal::accept(1)
 }
@@ -246,7 +290,7 @@ pub fn values(theory: &[u8], reading: &[u8], values: &mut [u8])
 }
 
 // The index of the first root whose value is not 2, and the count where each is 2.
-fn first_untrue(roots: &[u8], values: &[u8], count: usize) -> usize
+fn first_untrue_root(roots: &[u8], values: &[u8], count: usize) -> usize
     requires { ⌜ count * 2 ≤ length (now roots) ⌝ }
     requires { ⌜ ((i : ℕ) → i < count → rootIn (now roots) i < length (now values)) ⌝ }
     ensures { λ r. ⌜ r ≡ first (λ i. not (eqb (getD (now (values .entry)) (rootIn (now (roots .entry)) i) 0) 2)) count ⌝ }
@@ -262,7 +306,25 @@ fn first_untrue(roots: &[u8], values: &[u8], count: usize) -> usize
     i
 }
 
-// Whether a reading satisfies an accepted theory: its nodes' values go to `scratch`, then each root is looked up there.
+// The index of the first pair whose atoms are both over 0, and the count where none is: a pair's formula is 2 exactly if the smaller of its two values is 0.
+fn first_untrue_pair(pairs: &[u8], reading: &[u8], count: usize) -> usize
+    requires { ⌜ count * 4 ≤ length (now pairs) ⌝ }
+    requires { ⌜ ((i : ℕ) → i < count → pairFits (length (now reading)) (pairIn (now pairs) i) ≡ true) ⌝ }
+    ensures { λ r. ⌜ r ≡ first (λ i. not (trueHere (value (readingOf (now (reading .entry))) (pairFormula (pairIn (now (pairs .entry)) i))))) count ⌝ }
+{
+    let mut i = 0;
+    while i < count {
+        let first = value_at(reading, wire::u16_at(pairs, i * 4));
+        let second = value_at(reading, wire::u16_at(pairs, i * 4 + 2));
+        if 0 < first.and(second).byte() {
+            return i;
+        }
+        i += 1;
+    }
+    i
+}
+
+// Whether a reading satisfies an accepted theory: its nodes' values go to `scratch`, where each root is looked up, and then each pair is looked up in the reading.
 pub fn satisfied(theory: &[u8], reading: &[u8], scratch: &mut [u8]) -> bool
     requires { ⌜ none (theoryRows (now theory)) ≡ true ⌝ }
     requires { ⌜ length (now reading) ≡ atomCount (now theory) ⌝ }
@@ -272,5 +334,9 @@ pub fn satisfied(theory: &[u8], reading: &[u8], scratch: &mut [u8]) -> bool
     values(theory, reading, scratch);
     let start = roots_start(theory);
     let count = roots(theory);
-    first_untrue(&theory[start..], scratch, count) == count
+    if first_untrue_root(&theory[start..], scratch, count) < count {
+        return false;
+    }
+    let pair_count = pairs(theory);
+    first_untrue_pair(&theory[pairs_start(theory)..], reading, pair_count) == pair_count
 }

@@ -1,6 +1,5 @@
 pub mod Turns
 pub mod NodeTerms
-pub mod Bounds
 pub mod Writing
 pub mod Sections
 pub mod Outcome

@@ -2,22 +2,23 @@
 use mathlib.Core.Path.{_≡_, ap, _∙_}
 use mathlib.Core.Bool.{true}
 use mathlib.Core.List.{List, _++_}
-use Prim.Native.Nat.{ℕ, _+_, _≤_}
+use Prim.Native.Nat.{ℕ, _+_, _*_, _≤_}
 use native.Mathlib.Omega.{arith}
 use lib.ListN.{length, length-drop, length-append}
-use Rattle.refusal.specs.Limits.{mostNodes, mostRules}
+use Rattle.refusal.specs.Limits.{mostNodes}
 use Rattle.refusal.specs.Table.{none}
-use Rattle.theory.specs.Image.{atomCount, nodeCount, rootCount, nodeSection, rootSection, rootIn, bookOf}
+use Rattle.theory.specs.Image.{atomCount, nodeCount, rootCount, pairCount, nodeSection, rootSection, pairSection, nodeIn, rootIn, pairIn, bookOf}
 use Rattle.theory.specs.Rows.{theoryRows}
 use Rattle.program.specs.Image.{rulesBytes}
 use Rattle.program.proofs.Lengths.{rulesBytes-append}
-use Rattle.theory.proofs.Accepted.{accepted}
-use Rattle.flat.specs.Flat.{flat}
+use Rattle.theory.proofs.Accepted.{accepted, accepted-wellFormed}
+use Rattle.flat.specs.Flat.{flat, largestK}
+use Rattle.flat.proofs.Sizes.{rules-bound}
 use Rattle.translation.specs.Outcome.{ruleTotal}
-use Rattle.translation.specs.Turns.{Nodes, Roots, rulesTo, factsTo, scratchTerm, Numbered}
+use Rattle.translation.specs.Turns.{Nodes, Roots, rulesTo, factsTo, pairsTo, scratchTerm, Numbered}
 use Rattle.translation.proofs.Turns.{flat-rules}
 use Rattle.translation.proofs.NodeTerms.{scratch-term}
-use Rattle.translation.proofs.Bounds.{length-rulesTo, length-factsTo}
+use Rattle.wire.proofs.Sequence.{length-upTo}
 
 module _ (t : List ℕ) (ok : none (theoryRows t) ≡ true) where
   pub nodes-accepted : Nodes (atomCount t) (nodeSection t) (nodeCount t)
@@ -36,35 +37,40 @@ module _ (t : List ℕ) (ok : none (theoryRows t) ≡ true) where
       let r = roots-accepted in
       record { few = r .few; long = r .long; below = λ i h. omega (arith, r .below i h, nodes-accepted .few) }
 
-  -- The rules of the program are those of the nodes and the facts of the roots, by the terms in the scratch.
+  pub pairs-long : pairCount t * 4 ≤ length (pairSection t)
+  pairs-long = rw length-drop (omega (arith, accepted t ok .header .whole))
+
+  -- The rules of the program are those of the nodes, the facts of the roots, by the terms in the scratch, and those of the pairs.
   pub accepted-rules : (scratch : List ℕ) → Numbered t scratch
-      → flat (bookOf t) .rules ≡ rulesTo (atomCount t) (nodeSection t) (nodeCount t) ++ factsTo (scratchTerm scratch) (rootSection t) (rootCount t)
+      → flat (bookOf t) .rules
+      ≡ (rulesTo (atomCount t) (nodeSection t) (nodeCount t) ++ factsTo (scratchTerm scratch) (rootSection t) (rootCount t)) ++ pairsTo (pairSection t) (pairCount t)
   accepted-rules scratch numbered =
       flat-rules t (scratchTerm scratch)
       (λ i h. scratch-term (atomCount t) (nodeSection t) (nodeCount t) nodes-accepted scratch numbered (rootIn (rootSection t) i) (roots-accepted .below i h))
 
-  -- K is at most 6N + R, and so within its limit.
+  -- K by its parts.
   pub ruleTotal-parts : (scratch : List ℕ) → Numbered t scratch
-      → ruleTotal t ≡ length (rulesTo (atomCount t) (nodeSection t) (nodeCount t)) + length (factsTo (scratchTerm scratch) (rootSection t) (rootCount t))
-  ruleTotal-parts scratch numbered = rw (accepted-rules scratch numbered, length-append)
+      → ruleTotal t ≡ length (rulesTo (atomCount t) (nodeSection t) (nodeCount t)) + length (factsTo (scratchTerm scratch) (rootSection t) (rootCount t)) + pairCount t
+  ruleTotal-parts scratch numbered = rw (accepted-rules scratch numbered, length-append, length-append, length-upTo)
 
-  pub ruleTotal-le : (scratch : List ℕ) → Numbered t scratch → ruleTotal t ≤ mostRules
-  ruleTotal-le scratch numbered =
-      omega (
-        arith,
-        ruleTotal-parts scratch numbered,
-        length-rulesTo (atomCount t) (nodeSection t) (nodeCount t),
-        length-factsTo (scratchTerm scratch) (rootSection t) (rootCount t),
-        nodes-accepted .few,
-        roots-accepted .few,
-      )
+  -- K is at most 6 * 1,023 + 256 + 128, as of every book within the limits.
+  pub accepted-total : ruleTotal t ≤ largestK
+  unfolding bookOf
+  accepted-total =
+      let header = accepted t ok .header in
+      rules-bound (bookOf t) (accepted-wellFormed t ok)
+      (rw (length-upTo (nodeIn (nodeSection t)) (nodeCount t)) (header .few-nodes))
+      (rw (length-upTo (rootIn (rootSection t)) (rootCount t)) (header .few-roots))
+      (rw (length-upTo (pairIn (pairSection t)) (pairCount t)) (header .few-pairs))
 
   -- Their bytes, one part behind the other.
   pub accepted-bytes : (scratch : List ℕ) → Numbered t scratch
       → rulesBytes (flat (bookOf t) .rules)
-      ≡ rulesBytes (rulesTo (atomCount t) (nodeSection t) (nodeCount t)) ++ rulesBytes (factsTo (scratchTerm scratch) (rootSection t) (rootCount t))
-  accepted-bytes scratch numbered = ap rulesBytes (accepted-rules scratch numbered) ∙ rulesBytes-append _ _
+      ≡ (rulesBytes (rulesTo (atomCount t) (nodeSection t) (nodeCount t)) ++ rulesBytes (factsTo (scratchTerm scratch) (rootSection t) (rootCount t)))
+      ++ rulesBytes (pairsTo (pairSection t) (pairCount t))
+  accepted-bytes scratch numbered = rw (accepted-rules scratch numbered, rulesBytes-append, rulesBytes-append)
 
   pub accepted-fit : (scratch : List ℕ) → Numbered t scratch → (room : ℕ) → length (rulesBytes (flat (bookOf t) .rules)) ≤ room
-      → length (rulesBytes (rulesTo (atomCount t) (nodeSection t) (nodeCount t))) + length (rulesBytes (factsTo (scratchTerm scratch) (rootSection t) (rootCount t))) ≤ room
-  accepted-fit scratch numbered room h = rw length-append at (rw (accepted-bytes scratch numbered) at h)
+      → length (rulesBytes (rulesTo (atomCount t) (nodeSection t) (nodeCount t))) + length (rulesBytes (factsTo (scratchTerm scratch) (rootSection t) (rootCount t)))
+      + length (rulesBytes (pairsTo (pairSection t) (pairCount t))) ≤ room
+  accepted-fit scratch numbered room h = rw (length-append, length-append) at (rw (accepted-bytes scratch numbered) at h)

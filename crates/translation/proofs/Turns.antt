@@ -9,17 +9,17 @@ use native.Mathlib.Numerals.{add-one}
 use native.Mathlib.Omega.{arith}
 use lib.ListN.{length, length-append}
 use Rattle.wire.specs.Sequence.{upTo}
-use Rattle.wire.proofs.Sequence.{upTo-none, upTo-more, length-upTo}
+use Rattle.wire.proofs.Sequence.{upTo-none, upTo-more, length-upTo, map-upTo}
 use Rattle.theory.specs.Book.{Node}
-use Rattle.theory.specs.Image.{atomCount, nodeCount, rootCount, nodeSection, rootSection, kindOf, nodeIn, rootIn, bookOf}
+use Rattle.theory.specs.Image.{atomCount, nodeCount, rootCount, pairCount, nodeSection, rootSection, pairSection, kindOf, nodeIn, rootIn, pairIn, bookOf}
 use Rattle.program.specs.Rule.{RuleOf}
 use Rattle.flat.specs.Table.{Slot, rows, labelCount}
-use Rattle.flat.specs.Flat.{Term, simplify, mapRule, instances, termAt, nodeRules, term, fact, facts, rulesFrom, labelTotal, flat}
+use Rattle.flat.specs.Flat.{Term, simplify, mapRule, instances, termAt, nodeRules, term, fact, facts, pairRule, rulesFrom, labelTotal, flat}
 use Rattle.table.specs.Shapes.{rowCount, shapeRule, kindShape}
 use Rattle.table.specs.OneRule.{filled, ruleIn, allNames}
 use Rattle.table.proofs.Rows.{shapes-rows}
 use Rattle.table.proofs.Names.{removes-filled}
-use Rattle.translation.specs.Turns.{termsFrom, nodesRules, nextTo, termsTo, rulesTo, factsTo, kindRules, rowsTo, labelBytes, labelsTo}
+use Rattle.translation.specs.Turns.{termsFrom, nodesRules, nextTo, termsTo, rulesTo, factsTo, pairsTo, kindRules, rowsTo, labelBytes, labelsTo}
 
 -- ---- one node more, behind a list of nodes
 
@@ -149,8 +149,11 @@ flat-size t = refl
 
 pub flat-rules : (t : List ℕ) (f : ℕ → Term)
     → ((i : ℕ) → i < rootCount t → f (rootIn (rootSection t) i) ≡ termAt (termsTo (atomCount t) (nodeSection t) (nodeCount t)) (rootIn (rootSection t) i))
-    → flat (bookOf t) .rules ≡ rulesTo (atomCount t) (nodeSection t) (nodeCount t) ++ factsTo f (rootSection t) (rootCount t)
+    → flat (bookOf t) .rules
+    ≡ (rulesTo (atomCount t) (nodeSection t) (nodeCount t) ++ factsTo f (rootSection t) (rootCount t)) ++ pairsTo (pairSection t) (pairCount t)
 unfolding bookOf termsTo rulesTo
 flat-rules t f h =
-    rulesFrom-parts (upTo (rootIn (rootSection t)) (rootCount t)) [] (atomCount t) (upTo (nodeIn (nodeSection t)) (nodeCount t))
-    ∙ ap (λ l. rulesTo (atomCount t) (nodeSection t) (nodeCount t) ++ l) (facts-are _ f (rootSection t) (rootCount t) h)
+    ap₂ _++_
+    (rulesFrom-parts (upTo (rootIn (rootSection t)) (rootCount t)) [] (atomCount t) (upTo (nodeIn (nodeSection t)) (nodeCount t))
+    ∙ ap (λ l. rulesTo (atomCount t) (nodeSection t) (nodeCount t) ++ l) (facts-are _ f (rootSection t) (rootCount t) h))
+    (map-upTo pairRule (pairIn (pairSection t)) (pairCount t))

@@ -8,33 +8,33 @@ use native.Mathlib.Numerals.{add-one}
 use native.Mathlib.Omega.{arith}
 use lib.Dec.{leb, ltb}
 use lib.ListN.{length, length-append, length-map}
-use lib.Seq.{take-all}
 use borrow.Author.Tests.{lt-ltb, le-ltb, le-leb, leb-true}
 use Rattle.refusal.specs.Limits.{mostAtoms, mostB, mostRules}
 use Rattle.refusal.specs.Table.{Row, none}
 use Rattle.refusal.proofs.Table.{cases}
 use Rattle.logic.proofs.Bools.{&&-split, &&-join}
-use Rattle.theory.specs.Book.{Kind, falseKind, trueKind, atomKind, notKind, andKind, orKind, impliesKind}
-use Rattle.theory.specs.Image.{atomCount, nodeCount, rootCount, nodeSection, rootSection, nodeIn, rootIn, bookOf}
+use Rattle.theory.specs.Book.{pairFits, Kind, falseKind, trueKind, atomKind, notKind, andKind, orKind, impliesKind}
+use Rattle.theory.specs.Image.{atomCount, nodeCount, rootCount, pairCount, nodeSection, rootSection, pairSection, nodeIn, rootIn, pairIn, bookOf}
 use Rattle.theory.specs.Rows.{theoryRows}
 use Rattle.theory.proofs.Accepted.{accepted, accepted-wellFormed}
+use Rattle.theory.proofs.PairLaws.{pair-below}
 use Rattle.program.specs.Rule.{RuleOf, Rule}
 use Rattle.program.specs.Image.{literals, programOf, imageOf}
 use Rattle.program.specs.Rows.{outside, programRows}
+use Rattle.wire.specs.Sequence.{upTo}
 use Rattle.wire.specs.Wire.{allBelow}
 use Rattle.wire.proofs.Sequence.{length-upTo}
 use Rattle.program.specs.Writable.{ruleWritable, rulesWritable, writable}
 use Rattle.program.proofs.Reading.{imageOf-accepted, programOf-imageOf}
 use Rattle.flat.specs.Table.{Slot, x, y, L, M, rows, labelCount}
-use Rattle.flat.specs.Flat.{Term, constant, name, names, removes, reduce, simplify, fill, fact, mapRule, instances, termAt, flat, largestB}
+use Rattle.flat.specs.Flat.{Term, constant, name, names, removes, reduce, simplify, fill, fact, mapRule, instances, termAt, pairRule, flat, largestB}
 use Rattle.flat.proofs.Sizes.{size-bound}
-use Rattle.table.specs.OneRule.{code}
 use Rattle.table.proofs.OneRule.{Below, length-names}
 use Rattle.translation.specs.Outcome.{sizeOf, ruleTotal}
-use Rattle.translation.specs.Turns.{Nodes, nextTo, termsTo, rulesTo, factsTo, Numbered}
-use Rattle.translation.proofs.Turns.{nextTo-more, rulesTo-none, rulesTo-more, factsTo-none, factsTo-more, length-termsTo, flat-size, flat-rules}
+use Rattle.translation.specs.Turns.{Nodes, nextTo, termsTo, rulesTo, factsTo, pairsTo}
+use Rattle.translation.proofs.Turns.{nextTo-none, nextTo-more, rulesTo-none, rulesTo-more, factsTo-none, factsTo-more, flat-size, flat-rules}
 use Rattle.translation.proofs.NodeTerms.{below-le, terms-below}
-use Rattle.translation.proofs.Sections.{nodes-accepted, ruleTotal-le}
+use Rattle.translation.proofs.Sections.{nodes-accepted, accepted-total}
 
 -- ---- lists of atoms, and of rules
 
@@ -143,13 +143,19 @@ module _ (A : ℕ) (s : List ℕ) (N : ℕ) (ok : Nodes A s N) where
       (rulesWritable-append B (factsTo (termAt (termsTo A s N)) roots i) _ (factsTo-writable roots i)
       (simplify-writable B (fact (termAt (termsTo A s N) (rootIn roots i))) (omega arith) (terms-below A s N ok N (omega arith) (rootIn roots i), tt) tt tt))
 
+-- A pair's rule has two literals, both atoms of the book.
+pairsTo-writable : (A B : ℕ) → A ≤ B → (s : List ℕ) (n : ℕ) → ((i : ℕ) → i < n → pairFits A (pairIn s i) ≡ true) → rulesWritable B (pairsTo s n) ≡ true
+unfolding upTo
+pairsTo-writable A B le s zero h = refl
+pairsTo-writable A B le s (suc n) h =
+    let p = pairIn s n in
+    let below = pair-below A p (h n (omega arith)) in
+    rulesWritable-append B (pairsTo s n) (pairRule p ∷ []) (pairsTo-writable A B le s n (λ i l. h i (omega arith)))
+    (rw (lt-ltb (p .first) B (omega arith), lt-ltb (p .second) B (omega arith)))
+
 module _ (t : List ℕ) (ok : none (theoryRows t) ≡ true) where
   abbrev terms : List Term
   terms = termsTo (atomCount t) (nodeSection t) (nodeCount t)
-
-  -- A scratch with the terms' numbers.
-  numbered : Numbered t (map code terms)
-  numbered = take-all (nodeCount t) (map code terms) (rw (length-map, length-termsTo) (omega arith))
 
   -- B is at most 1,024 + 2 * 1,023, as of every book within the limits.
   pub accepted-size : sizeOf t ≤ largestB
@@ -162,24 +168,22 @@ module _ (t : List ℕ) (ok : none (theoryRows t) ≡ true) where
   pub over-idle : (r : Row) → (r .applies ≡ true → mostB < sizeOf t) → r .applies ≡ false
   over-idle r over = cases (r .applies) (λ a. absurd (omega (arith, accepted-size, over a))) (λ a. a)
 
-  -- K is within its limit.
-  pub rules-bound : ruleTotal t ≤ mostRules
-  rules-bound = ruleTotal-le t ok (map code terms) numbered
-
   rules-writable : rulesWritable (sizeOf t) (flat (bookOf t) .rules) ≡ true
   rules-writable =
       let s = nodeSection t in
       let nodes = nodes-accepted t ok in
       rw (flat-size t, flat-rules t (termAt terms) (λ i h. refl))
+      (rulesWritable-append _ (rulesTo (atomCount t) s (nodeCount t) ++ _) _
       (rulesWritable-append _ (rulesTo (atomCount t) s (nodeCount t)) _
       (rulesTo-writable (atomCount t) s (nodeCount t) nodes (nodeCount t) (omega arith))
       (factsTo-writable (atomCount t) s (nodeCount t) nodes (rootSection t) (rootCount t)))
+      (pairsTo-writable (atomCount t) _ (rw nextTo-none at (next-up (atomCount t) s (nodeCount t) nodes 0 (nodeCount t) (omega arith))) (pairSection t) (pairCount t) (accepted t ok .pairs-fit)))
 
   within : outside (bookOf t .atoms) (sizeOf t) (ruleTotal t) ≡ false
   unfolding bookOf
   within =
       let few = nodes-accepted t ok .few-atoms in
-      rw (le-ltb mostAtoms (atomCount t) few, le-ltb (sizeOf t) (atomCount t) (omega arith), le-ltb mostB (sizeOf t) (omega (arith, accepted-size)), le-ltb mostRules (ruleTotal t) rules-bound)
+      rw (le-ltb mostAtoms (atomCount t) few, le-ltb (sizeOf t) (atomCount t) (omega arith), le-ltb mostB (sizeOf t) (omega (arith, accepted-size)), le-ltb mostRules (ruleTotal t) (omega (arith, accepted-total t ok)))
 
   pub flat-writable : writable (flat (bookOf t)) ≡ true
   flat-writable = rw within rules-writable

@@ -1,4 +1,4 @@
--- What the loops over an image's nodes and roots have after so many turns: notes on the code, which no public promise names.
+-- What the loops over an image's nodes, roots and pairs have after so many turns: notes on the code, which no public promise names.
 use mathlib.Core.Path.{_≡_}
 use mathlib.Core.Bool.{false}
 use mathlib.Core.List.{List, [], _∷_, _++_, map}
@@ -8,10 +8,10 @@ use Rattle.refusal.specs.Limits.{mostAtoms, mostNodes, mostRoots}
 use Rattle.wire.specs.Sequence.{upTo}
 use Rattle.logic.specs.Value.{number, ofByte, negation}
 use Rattle.theory.specs.Book.{Node}
-use Rattle.theory.specs.Image.{atomCount, nodeCount, nodeSection, kindOf, nodeIn, breaks, rootIn}
+use Rattle.theory.specs.Image.{atomCount, nodeCount, nodeSection, kindOf, nodeIn, breaks, rootIn, pairIn}
 use Rattle.program.specs.Rule.{Rule}
 use Rattle.flat.specs.Table.{rows, labelCount}
-use Rattle.flat.specs.Flat.{Term, term, instances, nodeRules, fact, simplify, labelTotal}
+use Rattle.flat.specs.Flat.{Term, term, instances, nodeRules, fact, simplify, pairRule, labelTotal}
 use Rattle.table.specs.Shapes.{labelsOf, shapeRule, kindShape}
 use Rattle.table.specs.OneRule.{code, decode, filled}
 
@@ -54,6 +54,10 @@ rulesTo A s k = nodesRules [] A (upTo (nodeIn s) k)
 unfoldable pub factsTo : (f : ℕ → Term) → List ℕ → (i : ℕ) → List Rule
 factsTo f s zero = []
 factsTo f s (suc i) = factsTo f s i ++ simplify (fact (f (rootIn s i)))
+
+-- The rules of the first i pairs of a section.
+abbrev pub pairsTo : List ℕ → (i : ℕ) → List Rule
+pairsTo s = upTo (λ j. pairRule (pairIn s j))
 
 -- The term of a node by its number in a scratch.
 abbrev pub scratchTerm : (scratch : List ℕ) → ℕ → Term

@@ -19,7 +19,7 @@ ghost use Rattle.flat.specs.Flat.{termOf, flat};
 ghost use Rattle.flat.specs.Extension.{extend as extension};
 ghost use Rattle.table.specs.Shapes.{KindIn};
 ghost use Rattle.table.specs.OneRule.{code};
-ghost use Rattle.translation.specs.Turns.{Nodes, Roots, nextTo, rulesTo, factsTo, scratchTerm, slotTerms, kindRules, NumberedTo, Numbered, labelsTo};
+ghost use Rattle.translation.specs.Turns.{Nodes, Roots, nextTo, rulesTo, factsTo, pairsTo, scratchTerm, slotTerms, kindRules, NumberedTo, Numbered, labelsTo};
 ghost use Rattle.translation.specs.Outcome.{sizeOf, ruleTotal, translateRows, translated, extendRows, extended};
 
 // The kind of node k, and its left and right.
@@ -256,7 +256,26 @@ fn write_facts(
     at
 }
 
-// K: the rules of the nodes and the facts of the roots.
+// Writes a rule for each pair over the start of `out`: ← first, second.
+fn write_pairs(out: &mut [u8], pairs: &[u8], count: usize) -> usize
+    requires { ⌜ count * 4 ≤ length (now pairs) ⌝ }
+    requires { ⌜ length (rulesBytes (pairsTo (now pairs) count)) ≤ length (now out) ⌝ }
+    ensures { λ r. ⌜ r ≡ length (rulesBytes (pairsTo (now (pairs .entry)) count)) ⌝ }
+    ensures { λ _. ⌜ now (out .exit) ≡ over (rulesBytes (pairsTo (now (pairs .entry)) count)) (now (out .entry)) ⌝ }
+{
+    let mut at = 0;
+    let mut i = 0;
+    while i < count {
+        let first = wire::u16_at(pairs, i * 4);
+        let second = wire::u16_at(pairs, i * 4 + 2);
+        let rule = program::rule_bytes(0, 2, 0, [first, second, 0]);
+        at += wire::put(&mut out[at..], &rule);
+        i += 1;
+    }
+    at
+}
+
+// K: the rules of the nodes, the facts of the roots, and a rule for each pair.
 fn count(theory: &[u8], terms: &[u16; refusal::MOST_NODES]) -> usize
     requires { ⌜ (none (theoryRows (now theory)) ≡ true) × Numbered (now theory) (now terms) ⌝ }
     ensures { λ r. ⌜ (r ≡ ruleTotal (now (theory .entry))) × (r ≤ mostRules) ⌝ }
@@ -264,10 +283,11 @@ fn count(theory: &[u8], terms: &[u16; refusal::MOST_NODES]) -> usize
     let start = theory::roots_start(theory);
     let nodes = theory::nodes(theory);
     let rules = count_rules(&theory[16..], nodes, theory::atoms(theory), terms);
-    rules + count_facts(&theory[start..], theory::roots(theory), terms)
+    let facts = count_facts(&theory[start..], theory::roots(theory), terms);
+    rules + facts + theory::pairs(theory)
 }
 
-// Writes all rules over the start of `out`: those of the nodes, then a fact for each root.
+// Writes all rules over the start of `out`: those of the nodes, then a fact for each root, then a rule for each pair.
 fn write_rules(theory: &[u8], out: &mut [u8], terms: &[u16; refusal::MOST_NODES]) -> usize
     requires { ⌜ (none (theoryRows (now theory)) ≡ true) × Numbered (now theory) (now terms) ⌝ }
     requires { ⌜ length (rulesBytes (flat (bookOf (now theory)) .rules)) ≤ length (now out) ⌝ }
@@ -277,12 +297,18 @@ fn write_rules(theory: &[u8], out: &mut [u8], terms: &[u16; refusal::MOST_NODES]
     let start = theory::roots_start(theory);
     let nodes = theory::nodes(theory);
     let at = write_nodes(out, &theory[16..], nodes, theory::atoms(theory), terms);
-    at
+    let end = at
         + write_facts(
             &mut out[at..],
             &theory[start..],
             theory::roots(theory),
             terms,
+        );
+    end
+        + write_pairs(
+            &mut out[end..],
+            &theory[theory::pairs_start(theory)..],
+            theory::pairs(theory),
         )
 }
 

@@ -1,4 +1,4 @@
--- `check` gives rows 1 to 7: where the header is refused that answer stands, else row 6 decides, then row 7. Assumes nothing.
+-- `check` gives a theory's rows: where the header is refused that answer stands, else row 6 decides, then row 7, then row 15. Assumes nothing.
 use mathlib.Core.Path.{_≡_}
 use mathlib.Core.Bool.{true}
 use mathlib.Core.List.{List, [], _∷_}
@@ -10,8 +10,8 @@ use borrow.Author.Needs.{needs}
 use Rattle.refusal.specs.Table.{none}
 use Rattle.refusal.specs.First.{first}
 use Rattle.refusal.proofs.Table.{answer-refused, none-accepted, Reached, reached-past, reached-accepted}
-use Rattle.theory.specs.Image.{atomCount, nodeCount, rootCount, rootsStart, nodeSection, fieldWrong, firstWrong, wrongPlace, breaks}
-use Rattle.theory.specs.Rows.{row6, row7, headerRows, theoryRows}
+use Rattle.theory.specs.Image.{atomCount, nodeCount, rootCount, pairCount, rootsStart, pairsStart, nodeSection, fieldWrong, firstWrong, wrongPlace, breaks}
+use Rattle.theory.specs.Rows.{row6, row7, row15, headerRows, theoryRows}
 use Rattle.wire.proofs.Laws.{part-from}
 use Rattle.refusal.proofs.First.{first-le, first-refused, first-next}
 use Rattle.theory.proofs.Rows.{numbered-headerRows}
@@ -27,7 +27,7 @@ clear : (c : tie.Else1) → none (headerRows (image c)) ≡ true
 clear c = none-accepted (headerRows (image c)) 0 (numbered-headerRows (image c)) (c .before .before .header .ensures) (c .if1 .left)
 
 -- they are past,
-past : (c : tie.Else1) → Reached (theoryRows (image c)) 1 (row6 (image c) ∷ row7 (image c) ∷ [])
+past : (c : tie.Else1) → Reached (theoryRows (image c)) 1 (row6 (image c) ∷ row7 (image c) ∷ row15 (image c) ∷ [])
 unfolding theoryRows
 past c = reached-past (headerRows (image c)) _ 1 (clear c)
 
@@ -57,7 +57,7 @@ to-node c = c .before
 abbrev to-header : tie.Else2 → tie.Else1
 to-header c = c .before .before .before .before .before
 
-past6 : (c : tie.Else2) → Reached (theoryRows (image (to-header c))) 1 (row7 (image (to-header c)) ∷ [])
+past6 : (c : tie.Else2) → Reached (theoryRows (image (to-header c))) 1 (row7 (image (to-header c)) ∷ row15 (image (to-header c)) ∷ [])
 past6 c =
     let t = image (to-header c) in
     first-next 6 (wrongPlace (atomCount t) (nodeSection t)) _ _ _ (node-is (to-node c)) (past (to-header c)) (rw (nodes-are (to-node c)) at (c .if2 .left))
@@ -73,6 +73,27 @@ root-is : (c : tie.After-first-root-not-below) → c .first-root-not-below .resu
 root-is c =
     let t = image (to-header (c .before .before .before .before)) in
     rw (← roots-are c, ← part-from (rootsStart (nodeCount t)) t, ← start-is c, ← nodes-are (to-node (c .before .before .before .before))) (c .first-root-not-below .ensures)
+
+abbrev to-node2 : tie.Else3 → tie.Else2
+to-node2 c = c .before .before .before .before .before
+
+past7 : (c : tie.Else3) → let t = image (to-header (to-node2 c)) in Reached (theoryRows t) 1 (row15 t ∷ [])
+past7 c = first-next 7 (λ k. k) _ _ _ (root-is (c .before)) (past6 (to-node2 c)) (rw (roots-are (c .before)) at (c .if3 .left))
+
+abbrev to-root : tie.After-first-bad-pair → tie.Else3
+to-root c = c .before .before .before .before .before
+
+abbrev image15 : tie.Else3 → List ℕ
+image15 c = image (to-header (to-node2 c))
+
+pairs-are : (c : tie.After-first-bad-pair) → c .before .before .before .before .pairs .result ≡ pairCount (image15 (to-root c))
+pairs-are c = c .before .before .before .before .pairs .ensures .0
+
+-- the pair found is its row's place
+pair-is : (c : tie.After-first-bad-pair) → c .first-bad-pair .result ≡ row15 (image15 (to-root c)) .place
+pair-is c =
+    let t = image15 (to-root c) in
+    rw (← pairs-are c, ← part-from (pairsStart (nodeCount t) (rootCount t)) t, ← c .before .before .before .pairs-start .ensures .0, ← c .before .atoms3 .ensures .0) (c .first-bad-pair .ensures)
 
 header-requires : tie.Need-header-requires
 header-requires c κs = search needs
@@ -166,13 +187,44 @@ returns-3 c =
     let found = c .before .before in
     first-refused 7 (λ k. k) _ _ _ (root-is found) (past6 (found .before .before .before .before)) (rw (roots-are found) at (c .before .if3 .taken)) (c .refuse2 .ensures)
 
-accept-requires : tie.Need-accept-requires
-accept-requires c κs = search needs
+pairs-requires : tie.Need-pairs-requires
+pairs-requires c κs = is-header (to-header (to-node2 c)) .long
+
+pairs-start-requires : tie.Need-pairs-start-requires
+pairs-start-requires c κs = is-header (to-header (to-node2 (c .before))) .long
+
+sub-first-bad-pair : tie.Need-sub-first-bad-pair
+sub-first-bad-pair c = omega (arith, is-header (to-header (to-node2 (c .before .before))), c .pairs-start .ensures .0)
+
+part-first-bad-pair-start : tie.Need-part-first-bad-pair-start
+part-first-bad-pair-start c = omega (arith, is-header (to-header (to-node2 (c .before .before))), c .pairs-start .ensures .0)
+
+part-first-bad-pair-end : tie.Need-part-first-bad-pair-end
+part-first-bad-pair-end c = search needs
+
+atoms-requires-3 : tie.Need-atoms-requires-3
+atoms-requires-3 c κs = is-header (to-header (to-node2 (c .before .before .before))) .long
+
+first-bad-pair-requires : tie.Need-first-bad-pair-requires
+first-bad-pair-requires c κs =
+    let head = is-header (to-header (to-node2 (c .before .before .before .before))) in
+    rw (part-from, length-drop) (omega (arith, head, c .before .before .pairs-start .ensures .0, c .before .before .before .pairs .ensures .0))
+
+refuse-requires-3 : tie.Need-refuse-requires-3
+refuse-requires-3 c κs = search needs
 
 returns-4 : tie.Need-returns-4
 returns-4 c =
     let found = c .before .before in
-    reached-accepted (first-next 7 (λ k. k) _ _ _ (root-is found) (past6 (found .before .before .before .before)) (rw (roots-are found) at (c .before .if3 .left))) (c .accept .ensures)
+    first-refused 15 (λ k. k) _ _ _ (pair-is found) (past7 (to-root found)) (rw (pairs-are found) at (c .before .if4 .taken)) (c .refuse3 .ensures)
+
+accept-requires : tie.Need-accept-requires
+accept-requires c κs = search needs
+
+returns-5 : tie.Need-returns-5
+returns-5 c =
+    let found = c .before .before in
+    reached-accepted (first-next 15 (λ k. k) _ _ _ (pair-is found) (past7 (to-root found)) (rw (pairs-are found) at (c .before .if4 .left))) (c .accept .ensures)
 
 pub check-spec : {M : Type 1} → statement M
 check-spec =
@@ -203,5 +255,14 @@ check-spec =
     first-root-not-below-requires
     refuse-requires-2
     returns-3
+    pairs-requires
+    pairs-start-requires
+    sub-first-bad-pair
+    part-first-bad-pair-start
+    part-first-bad-pair-end
+    atoms-requires-3
+    first-bad-pair-requires
+    refuse-requires-3
+    returns-4
     accept-requires
-    returns-4)
+    returns-5)

@@ -1,12 +1,14 @@
--- `count` gives K: the nodes' rules and the roots' facts are all rules of the program. Assumes nothing.
-use mathlib.Core.Path.{_≡_, sym}
-use Prim.Native.Nat.{_+_}
+-- `count` gives K: the nodes' rules, the roots' facts and one for each pair are all rules of the program. Assumes nothing.
+use mathlib.Core.Path.{_≡_}
+use Prim.Native.Nat.{_+_, _≤_}
 use native.Mathlib.Omega.{arith}
 use denote.Ref.{now}
 use Rattle.wire.proofs.Laws.{part-from}
+use Rattle.theory.specs.Image.{pairCount}
 use Rattle.theory.proofs.Accepted.{accepted}
+use Rattle.flat.specs.Flat.{largestK}
 use Rattle.translation.specs.Outcome.{ruleTotal}
-use Rattle.translation.proofs.Sections.{nodes-accepted, roots-within, ruleTotal-parts, ruleTotal-le}
+use Rattle.translation.proofs.Sections.{nodes-accepted, roots-within, ruleTotal-parts, accepted-total}
 use borrow.Author.Needs.{needs}
 use Rattle.translation.proofs.count.Statement.{statement}
 use Rattle.translation.proofs.count.Tie as tie
@@ -51,19 +53,31 @@ count-facts-requires c κs =
     let start = c .before .before .before .before .before .before .before .before in
     rw (part-from, c .before .before .before .before .before .before .roots-start .ensures .0, c .roots .ensures .0) (roots-within _ (start .pre .0))
 
--- the sum is K
-total : (c : tie.After-count-facts) → c .before .before .before .count-rules .result + c .count-facts .result ≡ ruleTotal (now (c .before .before .before .before .before .before .before .before .before .args .theory))
+abbrev start : tie.After-count-facts → tie.Start
+start c = c .before .before .before .before .before .before .before .before .before
+
+-- with the pairs the sum is K
+total : (c : tie.After-count-facts) → let t = now (start c .args .theory) in
+    c .before .before .before .count-rules .result + c .count-facts .result + pairCount t ≡ ruleTotal t
 total c =
-    let start = c .before .before .before .before .before .before .before .before .before in
     let facts = rw (part-from, c .before .before .before .before .before .before .before .roots-start .ensures .0, c .before .roots .ensures .0) at (c .count-facts .ensures) in
     let rules = rw (c .before .before .before .before .atoms .ensures .0, c .before .before .before .before .before .before .nodes .ensures .0, part-from) at (c .before .before .before .count-rules .ensures) in
-    rw (rules, facts) (sym (ruleTotal-parts (now (start .args .theory)) (start .pre .0) (now (start .args .terms)) (start .pre .1)))
+    omega (arith, rules, facts, ruleTotal-parts (now (start c .args .theory)) (start c .pre .0) (now (start c .args .terms)) (start c .pre .1))
+
+within : (c : tie.After-count-facts) → ruleTotal (now (start c .args .theory)) ≤ largestK
+within c = accepted-total (now (start c .args .theory)) (start c .pre .0)
 
 add-result : tie.Need-add-result
-add-result c = omega (arith, total c, ruleTotal-le _ (c .before .before .before .before .before .before .before .before .before .pre .0) _ (c .before .before .before .before .before .before .before .before .before .pre .1))
+add-result c = omega (arith, total c, within c)
+
+pairs-requires : tie.Need-pairs-requires
+pairs-requires c κs = accepted _ (start c .pre .0) .header .long
+
+add-result-2 : tie.Need-add-result-2
+add-result-2 c = omega (arith, total (c .before), within (c .before), c .pairs .ensures .0)
 
 returns : tie.Need-returns
-returns c = (total c, rw (total c) (ruleTotal-le _ (c .before .before .before .before .before .before .before .before .before .pre .0) _ (c .before .before .before .before .before .before .before .before .before .pre .1)))
+returns c = (rw (c .pairs .ensures .0) (total (c .before)), omega (arith, total (c .before), within (c .before), c .pairs .ensures .0))
 
 pub count-spec : {M : Type 1} → statement M
 count-spec =
@@ -82,4 +96,6 @@ count-spec =
     roots-requires
     count-facts-requires
     add-result
+    pairs-requires
+    add-result-2
     returns)

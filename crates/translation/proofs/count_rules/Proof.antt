@@ -11,7 +11,7 @@ use Rattle.table.specs.OneRule.{filled}
 use Rattle.translation.specs.Turns.{nextTo, termsTo, rulesTo}
 use Rattle.translation.proofs.Turns.{nextTo-none, nextTo-more, rulesTo-none, rulesTo-more}
 use Rattle.translation.proofs.NodeTerms.{Known, node-known, operands-small, turn-rules}
-use Rattle.translation.proofs.Bounds.{kind-rules}
+use Rattle.flat.proofs.Sizes.{kind-rules}
 use Rattle.translation.proofs.count_rules.Statement.{statement}
 use Rattle.translation.proofs.count_rules.Tie as tie
 

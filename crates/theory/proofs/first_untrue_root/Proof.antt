@@ -1,4 +1,4 @@
--- `first_untrue` gives the first root whose value is not 2: before each turn it has not passed that root. Assumes nothing.
+-- `first_untrue_root` gives the first root whose value is not 2: before each turn it has not passed that root. Assumes nothing.
 use mathlib.Core.Bool.{not}
 use Prim.Native.Nat.{_-_, _≤_}
 use lib.Dec.{eqb}
@@ -8,8 +8,8 @@ use borrow.Author.Tests.{eq-eqb, ne-eqb}
 use Rattle.refusal.specs.First.{first}
 use Rattle.refusal.proofs.First.{first-here, first-on, first-end}
 use Rattle.theory.specs.Image.{rootIn}
-use Rattle.theory.proofs.first_untrue.Statement.{statement}
-use Rattle.theory.proofs.first_untrue.Tie as tie
+use Rattle.theory.proofs.first_untrue_root.Statement.{statement}
+use Rattle.theory.proofs.first_untrue_root.Tie as tie
 
 abbrev Inv-loop : tie.InvT-loop
 Inv-loop roots values count i₀ i = i ≤ first (λ j. not (eqb (getD values (rootIn roots j) 0) 2)) count
@@ -51,8 +51,8 @@ loop-again c =
 returns-2 : tie.Need-returns-2 Inv-loop μ-loop
 returns-2 c = first-end _ _ _ (c .before .loop .inv) (c .loop-test .left)
 
-pub first-untrue-spec : {M : Type 1} → statement M
-first-untrue-spec =
+pub first-untrue-root-spec : {M : Type 1} → statement M
+first-untrue-root-spec =
     tie.close
     (tie.spec
     Inv-loop
