@@ -3,10 +3,11 @@
 //! Where several rows are to be broken in one image, the rows that change its length come last, and row 1 or 21 after
 //! all others.
 
-use crate::lists::get2;
+use crate::lists::{get2, Pair};
 use crate::random::Random;
 
-fn set2(image: &mut [u8], at: usize, number: usize) {
+/// Writes a 2-byte number at `at`.
+pub fn set2(image: &mut [u8], at: usize, number: usize) {
     image[at..at + 2].copy_from_slice(&(number as u16).to_le_bytes());
 }
 
@@ -25,7 +26,7 @@ fn byte(random: &mut Random, low: usize) -> u8 {
     random.within(low, high) as u8
 }
 
-/// Bytes 6 and 7, rows 3 and 23.
+/// Bytes 6 and 7, row 23.
 fn reserved(random: &mut Random, image: &mut [u8]) {
     let at = random.within(6, 7);
     image[at] = random.within(1, 255) as u8;
@@ -64,19 +65,18 @@ fn stump(random: &mut Random, image: &mut Vec<u8>) {
 }
 
 /// The rows of a theory image in the order in which damage must be done.
-pub const THEORY_ORDER: [u32; 7] = [7, 6, 4, 3, 2, 5, 1];
+pub const THEORY_ORDER: [u32; 7] = [15, 7, 6, 4, 2, 5, 1];
 
-/// Breaks one of rows 1 to 7. The image is valid up to other damage, with at least one node and one root.
+/// Breaks one of these rows. The image is valid up to other damage, with at least one node and one root, and for row 15
+/// one pair.
 pub fn theory(random: &mut Random, image: &mut Vec<u8>, row: u32) -> usize {
     let (nodes, roots) = (get2(image, 2), get2(image, 4));
     match row {
         1 => stump(random, image),
-        2 => match random.below(3) {
-            0 => set2(image, 0, at_least(random, 1025)),
-            1 => set2(image, 2, at_least(random, 1025)),
-            _ => set2(image, 4, at_least(random, 257)),
-        },
-        3 => reserved(random, image),
+        2 => {
+            let (at, low) = random.pick(&[(0, 1025), (2, 1025), (4, 257), (6, 129)]);
+            set2(image, at, at_least(random, low));
+        }
         4 => field(random, image),
         5 => return length(random, image),
         6 => {
@@ -87,6 +87,12 @@ pub fn theory(random: &mut Random, image: &mut Vec<u8>, row: u32) -> usize {
         7 => {
             let own = random.below(roots);
             set2(image, 16 + 6 * nodes + 2 * own, at_least(random, nodes));
+            return own;
+        }
+        15 => {
+            let own = random.below(get2(image, 6));
+            let bad = bad_pairs(random, get2(image, 0));
+            pair(image, own, random.pick(&bad));
             return own;
         }
         _ => panic!("no row {row} of a theory"),
@@ -121,6 +127,22 @@ pub fn node(random: &mut Random, image: &mut [u8], own: usize, kind: usize, mut 
     8 * own + wrong.trailing_zeros() as usize
 }
 
+/// A pair for each way of being bad where there are so many atoms, two at least: one atom twice, the larger first, the
+/// second not below A, neither of them, the first not.
+pub fn bad_pairs(random: &mut Random, atoms: usize) -> [Pair; 8] {
+    let low = random.below(atoms - 1);
+    let high = random.within(low + 1, atoms - 1);
+    let over = at_least(random, atoms + 1);
+    [(low, low), (high, high), (high, low), (low, atoms), (high, over), (atoms, over), (atoms, low), (over, high)]
+}
+
+/// Puts these two atoms into the pair `own`.
+pub fn pair(image: &mut [u8], own: usize, (first, second): Pair) {
+    let at = 16 + 6 * get2(image, 2) + 2 * get2(image, 4) + 4 * own;
+    set2(image, at, first);
+    set2(image, at + 2, second);
+}
+
 /// The rows of a program image in the order in which damage must be done.
 pub const PROGRAM_ORDER: [u32; 6] = [26, 24, 23, 22, 25, 21];
 
@@ -133,7 +155,7 @@ pub fn program(random: &mut Random, image: &mut Vec<u8>, row: u32) -> usize {
             0 => set2(image, 0, at_least(random, 1025)),
             1 => set2(image, 2, at_least(random, 3073)),
             2 if atoms > 0 => set2(image, 2, random.below(atoms)),
-            _ => set2(image, 4, at_least(random, 6401)),
+            _ => set2(image, 4, at_least(random, 6529)),
         },
         23 => reserved(random, image),
         24 => field(random, image),

@@ -1,7 +1,8 @@
 //! Formulas as text, for the tables of worked examples.
 //!
 //! From the tightest to the loosest: `~`, `&`, `|`, and then `->`, `<-`, `<->`, which stand once in a bracket. The
-//! constants are `false` and `true`; every other word is an atom. A semicolon parts the formulas of a theory.
+//! constants are `false` and `true`; every other word is an atom. A semicolon parts the formulas of a theory, and
+//! `p / q` stands for a pair.
 
 use crate::lists::{Book, Set};
 use crate::node::Node;
@@ -11,6 +12,10 @@ pub fn book(atoms: &str, text: &str) -> Book {
     let names: Vec<&str> = atoms.split_whitespace().collect();
     let mut book = Book { atoms: names.len(), ..Book::default() };
     for formula in text.split(';').map(str::trim).filter(|formula| !formula.is_empty()) {
+        if let Some((first, second)) = formula.split_once('/') {
+            book.pairs.push((atom(&names, first.trim()), atom(&names, second.trim())));
+            continue;
+        }
         let mut reader = Reader { names: &names, words: words(formula), at: 0, nodes: &mut book.nodes };
         let root = reader.rule();
         assert!(reader.at == reader.words.len(), "the end of {formula} was not understood");
@@ -21,8 +26,13 @@ pub fn book(atoms: &str, text: &str) -> Book {
 
 /// The set of the atoms named in `members`.
 pub fn set(atoms: &str, members: &str) -> Set {
-    let number = |name: &str| atoms.split_whitespace().position(|atom| atom == name).expect("an atom");
-    members.split_whitespace().map(|name| 1 << number(name)).sum()
+    let names: Vec<&str> = atoms.split_whitespace().collect();
+    members.split_whitespace().map(|name| 1 << atom(&names, name)).sum()
+}
+
+/// The number of the atom of this name.
+fn atom(names: &[&str], name: &str) -> usize {
+    names.iter().position(|known| *known == name).unwrap_or_else(|| panic!("{name} is no atom here"))
 }
 
 fn words(text: &str) -> Vec<&str> {
@@ -114,9 +124,8 @@ impl Reader<'_> {
             return self.node(Node::True);
         }
         let word = self.words.get(self.at).expect("a formula ends too soon");
-        let atom = self.names.iter().position(|name| name == word);
+        let atom = atom(self.names, word);
         self.at += 1;
-        let atom = atom.unwrap_or_else(|| panic!("{word} is no atom here"));
         self.node(Node::Atom(atom))
     }
 }
@@ -145,9 +154,11 @@ mod tests {
     }
 
     #[test]
-    fn reads_brackets_arrows_and_constants() {
+    fn reads_brackets_arrows_constants_and_pairs() {
         assert_eq!(book("p", "p <- (true -> false)").nodes.last(), Some(&Node::Implies(3, 0)));
         assert_eq!(book("p q", "p; q").roots, [0, 1]);
+        let read = book("p q r", "p / r; q; q / r");
+        assert_eq!((read.nodes, read.roots, read.pairs), (vec![Node::Atom(1)], vec![0], vec![(0, 2), (1, 2)]));
         assert_eq!(book("p q", "p <-> q").nodes.len(), 5);
         assert_eq!(set("p q r", "r p"), 5);
     }

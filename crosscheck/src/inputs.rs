@@ -29,17 +29,22 @@ impl Input {
 const SMALL: &str = "3 atoms, 5 nodes";
 const SMALL_FLAT: &str = "7 atoms, 13 rules";
 const LARGE: &str = "1,024 atoms and nodes, 256 roots";
+const PAIRED: &str = "the same and 128 pairs";
 const LARGE_FLAT: &str = "over 4,000 rules";
 
 /// Each call on a small input and on a large one.
 pub fn all() -> Vec<Input> {
     let small = formula::book("p q r", "(r -> q) -> p");
-    let (large, reading) = mixed(1024, 256);
-    let longest = generate::longest(&mut Random::new(5), 1024, 1024, 256);
+    let (large, reading) = mixed(1024, 256, 0);
+    let (paired, holding) = mixed(1024, 256, 128);
+    let longest = |pairs: usize| generate::longest(&mut Random::new(5), 1024, 1024, 256, pairs);
     let mut inputs = on_book(SMALL, SMALL_FLAT, &small, vec![2, 0, 0]);
     inputs.extend(on_book(LARGE, LARGE_FLAT, &large, reading));
     inputs.extend([
-        translation("the longest: 6,394 rules", &longest),
+        Input::new(PAIRED, Call::CheckTheory, paired.image(), vec![], 0),
+        Input::new(PAIRED, Call::EvaluateTheory, paired.image(), holding, 0),
+        translation("implications, 6,394 rules", &longest(0)),
+        translation("the longest: 6,522 rules", &longest(128)),
         Input::new(SMALL, Call::TestTheory, small.image(), vec![2, 0, 0], 0),
         candidate("1,024 nodes, 16 atoms true", 1024, 16),
         Input::new(SMALL, Call::ListSets, small.image(), vec![], 2),
@@ -76,12 +81,12 @@ fn translation(name: &'static str, book: &Book) -> Input {
 
 /// The translation of a book of so many nodes, with the number of its rules.
 pub fn mixed_translation(nodes: usize) -> (Input, usize) {
-    let (book, _) = mixed(nodes, 0);
+    let (book, _) = mixed(nodes, 0, 0);
     (translation("", &book), book.flat().rules.len())
 }
 
-/// A book of `nodes` nodes, two thirds of them implications, and a reading that satisfies all its roots.
-fn mixed(nodes: usize, roots: usize) -> (Book, Vec<u8>) {
+/// A book of `nodes` nodes, two thirds of them implications, and a reading that satisfies all its roots and pairs.
+fn mixed(nodes: usize, roots: usize, pairs: usize) -> (Book, Vec<u8>) {
     let mut random = Random::new(7);
     let atoms = 1024;
     let leaves = nodes / 8;
@@ -102,20 +107,21 @@ fn mixed(nodes: usize, roots: usize) -> (Book, Vec<u8>) {
     }
     let reading: Vec<u8> = (0..atoms).map(|_| random.below(3) as u8).collect();
     book.roots = vec![0; roots];
+    book.pairs = vec![(0, 1); pairs];
     generate::satisfy(&mut random, &mut book, &reading);
     (book, reading)
 }
 
 /// A candidate that is an answer set, so that no subset of it ends the test early.
 pub fn candidate(name: &'static str, nodes: usize, truths: usize) -> Input {
-    let (mut book, set) = generate::facts(&mut Random::new(11), truths + 4, nodes, truths);
+    let (mut book, set) = generate::facts(&mut Random::new(11), truths + 4, nodes, truths, 0);
     book.roots.reverse();
     Input::new(name, Call::TestTheory, book.image(), set, 0)
 }
 
 /// Twelve atoms, each of them true or not, beside further nodes that no root uses: every set is an answer set.
 fn listing() -> Input {
-    let book = generate::free(generate::book(&mut Random::new(13), 12, 28, 0));
+    let book = generate::free(generate::book(&mut Random::new(13), 12, 28, 0, 0));
     Input::new("12 atoms, 64 nodes", Call::ListSets, book.image(), vec![], 8192)
 }
 
@@ -141,7 +147,11 @@ mod tests {
             let answer = input.run(&reference::CALLS, &mut vec![0; input.room]);
             assert_eq!(answer.number, 0, "{}, {}", input.call.name(), input.name);
             assert!(input.name != LARGE_FLAT || input.image.len() > 16 + 10 * 4000);
+            assert!(input.name != PAIRED || input.image.len() == 16 + 6 * 1024 + 2 * 256 + 4 * 128);
             assert!(answer.result > 0, "{}, {}", input.call.name(), input.name);
+            for (name, rules) in [("6,394 rules", 6394), ("6,522 rules", 6522)] {
+                assert!(!input.name.ends_with(name) || answer.result == rules, "{}", input.name);
+            }
         }
     }
 }

@@ -6,13 +6,17 @@
 
 use crate::node::Node;
 
-/// A theory: its number of atoms, its nodes and its roots.
+/// A theory: its number of atoms, its nodes, its roots and its pairs of atoms.
 #[derive(Clone, Debug, Default, PartialEq, Eq)]
 pub struct Book {
     pub atoms: usize,
     pub nodes: Vec<Node>,
     pub roots: Vec<usize>,
+    pub pairs: Vec<Pair>,
 }
+
+/// Two atoms that are never true together, the smaller first.
+pub type Pair = (usize, usize);
 
 /// A flat rule.
 #[derive(Clone, Debug, Default, PartialEq, Eq)]
@@ -49,13 +53,18 @@ pub fn get2(bytes: &[u8], at: usize) -> usize {
 }
 
 impl Book {
+    /// A book without pairs.
+    pub fn new(atoms: usize, nodes: Vec<Node>, roots: Vec<usize>) -> Book {
+        Book { atoms, nodes, roots, pairs: vec![] }
+    }
+
     /// The image of the book. Counts are not compared with the limits, so that images beyond them can be made.
     pub fn image(&self) -> Vec<u8> {
         let mut bytes = Vec::new();
         put2(&mut bytes, self.atoms);
         put2(&mut bytes, self.nodes.len());
         put2(&mut bytes, self.roots.len());
-        put2(&mut bytes, 0);
+        put2(&mut bytes, self.pairs.len());
         put4(&mut bytes, 16);
         put4(&mut bytes, 16 + 6 * self.nodes.len());
         for &node in &self.nodes {
@@ -75,6 +84,10 @@ impl Book {
         }
         for &root in &self.roots {
             put2(&mut bytes, root);
+        }
+        for &(first, second) in &self.pairs {
+            put2(&mut bytes, first);
+            put2(&mut bytes, second);
         }
         bytes
     }
@@ -100,10 +113,22 @@ impl Book {
         truths
     }
 
-    /// Whether every root holds here.
+    /// The book with its pairs as what they mean: each becomes a root `not (first and second)`.
+    pub fn written_out(&self) -> Book {
+        let mut book = Book { pairs: vec![], ..self.clone() };
+        for &(first, second) in &self.pairs {
+            let own = book.nodes.len();
+            book.nodes.extend([Node::Atom(first), Node::Atom(second), Node::And(own, own + 1), Node::Not(own + 2)]);
+            book.roots.push(own + 3);
+        }
+        book
+    }
+
+    /// Whether every root holds here, and every pair as the formula that it means.
     pub fn satisfied(&self, here: &[bool], there: &[bool]) -> bool {
-        let truths = self.truths(here, there);
-        self.roots.iter().all(|&root| truths[root].0)
+        let book = self.written_out();
+        let truths = book.truths(here, there);
+        book.roots.iter().all(|&root| truths[root].0)
     }
 
     /// The answer sets, ascending.
@@ -143,6 +168,7 @@ impl Book {
             atoms: self.atoms,
             nodes: self.nodes.iter().copied().chain(moved).collect(),
             roots: self.roots.iter().copied().chain(other.roots.iter().map(|&root| root + by)).collect(),
+            pairs: self.pairs.iter().chain(&other.pairs).copied().collect(),
         }
     }
 
@@ -164,6 +190,7 @@ impl Book {
             all += labels;
         }
         rules.extend(self.roots.iter().map(|&root| Rule::new(&[terms[root]], &[], &[])));
+        rules.extend(self.pairs.iter().map(|&(first, second)| Rule::new(&[], &[first, second], &[])));
         rules.retain(|rule| {
             !rule.heads.contains(&TRUE) && !rule.positives.contains(&FALSE) && !rule.negatives.contains(&TRUE)
         });
@@ -294,4 +321,22 @@ pub fn answer_sets(atoms: usize, satisfied: impl Fn(&[bool], &[bool]) -> bool) -
                 && (0..there).filter(|here| here & there == *here).all(|here| !satisfied(&members(here, atoms), &world))
         })
         .collect()
+}
+
+#[cfg(test)]
+mod tests {
+    use super::*;
+    use crate::formula;
+
+    #[test]
+    fn books_beside_each_other_are_both_satisfied() {
+        let [left, right] = ["p | q; p / q", "r -> p; q / r"].map(|text| formula::book("p q r", text));
+        let both = left.beside(&right);
+        assert_eq!(both.pairs, [(0, 1), (1, 2)]);
+        for (there, here) in (0..8).flat_map(|there| (0..=there).map(move |here| (there, here & there))) {
+            let [here, there] = [here, there].map(|set| members(set, 3));
+            let each = left.satisfied(&here, &there) && right.satisfied(&here, &there);
+            assert_eq!(both.satisfied(&here, &there), each);
+        }
+    }
 }

@@ -6,19 +6,20 @@
 mod books;
 mod examples;
 mod labels;
+mod pairs;
 mod programs;
 mod refusals;
 
 use crate::calls::{Answer, Call, Calls};
 use crate::compare::{hex, Checked, Comparer, Finding};
-use crate::lists::{get2, Set};
+use crate::lists::{get2, Book, Set};
 use crate::random::Random;
 use crate::{damage, generate};
 
 /// How much of each part to run.
 #[derive(Clone, Copy)]
 pub struct Effort {
-    /// How often each pair of rows is broken, for each call.
+    /// How often each two rows are broken, for each call.
     pub damages: usize,
     pub mutations: usize,
     /// Of the small books that are listed in full, one in so many.
@@ -29,7 +30,10 @@ pub struct Effort {
     pub large_programs: usize,
     /// Books all of whose readings and label values are tried.
     pub labelled_books: usize,
-    pub solver_programs: usize,
+    /// Small books with pairs, all of whose readings and sets are tried.
+    pub paired_books: usize,
+    /// Books with pairs for the solver, and as many without.
+    pub solver_books: usize,
 }
 
 impl Effort {
@@ -42,7 +46,8 @@ impl Effort {
         small_programs: 15_000,
         large_programs: 500,
         labelled_books: 2_000,
-        solver_programs: 300,
+        paired_books: 2_000,
+        solver_books: 400,
     };
     pub const SHORT: Effort = Effort {
         damages: 2,
@@ -53,23 +58,26 @@ impl Effort {
         small_programs: 300,
         large_programs: 10,
         labelled_books: 8,
-        solver_programs: 10,
+        paired_books: 20,
+        solver_books: 10,
     };
 }
 
 type Part = fn(&mut Suite, &Effort) -> Checked<()>;
 
 /// The parts by name. The solver is not among them, since it is not everywhere.
-pub const PARTS: [(&str, Part); 9] = [
+pub const PARTS: [(&str, Part); 11] = [
     ("worked examples", |suite, _| suite.worked_examples()),
     ("limits", |suite, _| suite.limits()),
     ("broken nodes", |suite, _| suite.broken_nodes()),
+    ("broken pairs", |suite, _| suite.broken_pairs()),
     ("damaged images and arguments", |suite, effort| suite.damaged(effort.damages)),
     ("mutated images", |suite, effort| suite.mutated(effort.mutations)),
     ("every small book", |suite, effort| suite.every_small_book(effort.stride)),
     ("random books", |suite, effort| suite.random_books(effort.small_books, effort.large_books)),
     ("random programs", |suite, effort| suite.random_programs(effort.small_programs, effort.large_programs)),
     ("labels of small books", |suite, effort| suite.labels(effort.labelled_books)),
+    ("small books with pairs", |suite, effort| suite.paired_books(effort.paired_books)),
 ];
 
 /// Two implementations and the random numbers that drive their comparison.
@@ -98,6 +106,12 @@ impl<'c> Suite<'c> {
     fn output(&mut self, call: Call, image: &[u8], reading: &[u8], room: usize) -> Checked<(Answer, Vec<u8>)> {
         let answer = self.comparer.expect(call, image, reading, room, 0, None)?;
         Ok((answer, self.comparer.written().to_vec()))
+    }
+
+    /// The answer sets of a book by the listing.
+    fn listed(&mut self, book: &Book) -> Checked<Vec<Set>> {
+        let (_, bytes) = self.output(Call::ListSets, &book.image(), &[], 2 << book.atoms)?;
+        Ok(sets(&bytes))
     }
 
     /// A call that writes, in buffers too short, empty, exact and larger; gives what it wrote.

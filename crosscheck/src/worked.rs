@@ -1,4 +1,5 @@
-//! The bench cases, and the propositional examples of the source papers 000 to 004, from the tables in `worked/`.
+//! The bench cases, the propositional examples of the source papers 000 to 004, and small books with pairs, from the
+//! tables in `worked/`.
 //!
 //! A line of a table has its fields between colons. One that starts with a blank goes on with the line before, and one
 //! that starts with # is a remark. The three-valued tables of the specification decide; where a paper prints something
@@ -9,20 +10,20 @@ use crate::lists::{Book, Set};
 
 /// A theory and its answer sets, ascending.
 pub struct Example {
-    /// The bench case, or the paper and its section or example.
+    /// The bench case, or the paper and its section or example, or what the book shows.
     pub source: String,
     pub book: Book,
     pub sets: Vec<Set>,
 }
 
-/// A theory and all the pairs (here, there) that satisfy it.
+/// A theory and all the worlds (here, there) that satisfy it.
 pub struct Models {
     pub source: String,
     pub book: Book,
-    pub pairs: Vec<(Set, Set)>,
+    pub worlds: Vec<(Set, Set)>,
 }
 
-/// Two theories that a paper puts in each other's place, and whether the same pairs satisfy both.
+/// Two theories that are put in each other's place, in most cases by a paper, and whether the same worlds satisfy both.
 pub struct Equivalence {
     pub source: String,
     pub left: Book,
@@ -38,13 +39,17 @@ pub fn examples() -> Vec<Example> {
     examples_of(include_str!("worked/examples.txt"))
 }
 
+pub fn pairs() -> Vec<Example> {
+    examples_of(include_str!("worked/pairs.txt"))
+}
+
 pub fn models() -> Vec<Models> {
-    let models = |[source, atoms, theory, pairs]: [String; 4]| {
-        let pair = |pair: &str| {
-            let (here, there) = pair.split_once(" in ").expect("one set in another");
+    let models = |[source, atoms, theory, worlds]: [String; 4]| {
+        let both = |worlds: &str| {
+            let (here, there) = worlds.split_once(" in ").expect("one set in another");
             (set(&atoms, here), set(&atoms, there))
         };
-        Models { source, book: formula::book(&atoms, &theory), pairs: pairs.split(',').map(pair).collect() }
+        Models { source, book: formula::book(&atoms, &theory), worlds: worlds.split(',').map(both).collect() }
     };
     rows(include_str!("worked/models.txt")).map(models).collect()
 }
@@ -94,15 +99,16 @@ mod tests {
 
     #[test]
     fn tables_are_read_whole() {
-        assert_eq!((cases().len(), examples().len(), models().len(), equivalences().len()), (9, 44, 6, 61));
+        assert_eq!([cases(), examples(), pairs()].map(|table| table.len()), [9, 44, 14]);
+        assert_eq!((models().len(), equivalences().len()), (7, 71));
     }
 
     #[test]
     fn signs_between_theories() {
         let figure: Vec<bool> = equivalences()
             .iter()
-            .filter(|pair| pair.source.starts_with("001, figure 3, implies"))
-            .map(|pair| pair.holds)
+            .filter(|both| both.source.starts_with("001, figure 3, implies"))
+            .map(|both| both.holds)
             .collect();
         assert_eq!(figure, [false, true, false]);
     }

@@ -55,11 +55,15 @@ fn run(suite: &mut Suite, effort: Effort) -> Checked<()> {
         timed(suite, name, |suite| part(suite, &effort))?;
     }
     if solver::available() {
-        timed(suite, "flat programs by clingo", |suite| suite.solver(effort.solver_programs))
+        let books = effort.solver_books;
+        for (kind, pairs) in [("without", false), ("with", true)] {
+            let name = format!("flat programs by clingo, {books} books {kind} pairs");
+            timed(suite, &name, |suite| suite.solver(books, pairs))?;
+        }
     } else {
         println!("flat programs by clingo: skipped, there is no clingo on the path");
-        Ok(())
     }
+    Ok(())
 }
 
 fn total(suite: &Suite) -> u64 {

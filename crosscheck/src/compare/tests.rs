@@ -6,6 +6,8 @@ use crate::lists::get2;
 use crate::reference;
 use crate::suite::{Effort, Suite, PARTS};
 
+mod pairs;
+
 fn run(broken: Calls) -> Result<(), String> {
     let mut suite = Suite::new(&reference::CALLS, &broken, 1);
     PARTS.into_iter().try_for_each(|(_, part)| part(&mut suite, &Effort::SHORT)).map_err(|finding| finding.0)
@@ -253,6 +255,6 @@ fn a_number_that_is_no_row_of_the_call() {
     let mut passed = |call: Call| -> Vec<u8> {
         (0..=255).filter(|&number| comparer.call(call, &[number], &[], 0).is_ok()).collect()
     };
-    assert_eq!(passed(Call::Translate), [0, 1, 2, 3, 4, 5, 6, 7, 8]);
-    assert_eq!(passed(Call::Extend), [0, 1, 2, 3, 4, 5, 6, 7, 8, 9, 10]);
+    assert_eq!(passed(Call::Translate), [0, 1, 2, 4, 5, 6, 7, 8, 15]);
+    assert_eq!(passed(Call::Extend), [0, 1, 2, 4, 5, 6, 7, 8, 9, 10, 15]);
 }

@@ -40,7 +40,7 @@ pub fn measure(theory: &Theory, terms: &mut Terms) -> Size {
         all += labels(node);
         node_rules(own, node, terms, &mut counter);
     }
-    root_rules(theory, terms, &mut counter);
+    last_rules(theory, terms, &mut counter);
     Size { all, rules: counter.rules }
 }
 
@@ -50,7 +50,7 @@ pub fn write(theory: &Theory, terms: &Terms, out: &mut [u8]) {
     for (own, node) in theory.nodes().enumerate() {
         node_rules(own, node, terms, &mut writer);
     }
-    root_rules(theory, terms, &mut writer);
+    last_rules(theory, terms, &mut writer);
 }
 
 fn term(terms: &Terms, node: usize) -> Term {
@@ -102,9 +102,14 @@ fn node_rules(own: usize, node: Node, terms: &Terms, sink: &mut impl Sink) {
     }
 }
 
-fn root_rules(theory: &Theory, terms: &Terms, sink: &mut impl Sink) {
+/// After the rules of the nodes: a fact for each root and a constraint for each pair.
+fn last_rules(theory: &Theory, terms: &Terms, sink: &mut impl Sink) {
     for root in theory.roots() {
         sink.rule(&[term(terms, root)], &[], &[]);
+    }
+    for pair in theory.pairs() {
+        let [first, second] = pair.map(|atom| Term::Atom(atom as u16));
+        sink.rule(&[], &[first, second], &[]);
     }
 }
 

@@ -2,7 +2,7 @@ use super::value::Value;
 use super::{groups, half, refuse, word, Outcome, HEADER};
 
 pub const MOST_ALL: usize = 3072;
-const MOST_RULES: usize = 6400;
+const MOST_RULES: usize = 6528;
 
 /// A program image that has passed its check.
 pub struct Program<'a> {

@@ -5,12 +5,14 @@ use crate::node::Node;
 pub const MOST_ATOMS: usize = 1024;
 pub const MOST_NODES: usize = 1024;
 const MOST_ROOTS: usize = 256;
+const MOST_PAIRS: usize = 128;
 
 /// A theory image that has passed its check, split into its parts.
 pub struct Theory<'a> {
     pub atoms: usize,
     nodes: &'a [u8],
     roots: &'a [u8],
+    pairs: &'a [u8],
 }
 
 /// The values of the nodes. One array serves all the evaluations of a call.
@@ -19,36 +21,37 @@ pub type Values = [Value; MOST_NODES];
 pub const NO_VALUES: Values = [Value::FALSE; MOST_NODES];
 
 impl<'a> Theory<'a> {
-    /// Rows 1 to 7.
+    /// Rows 1, 2, 4 to 7 and 15.
     pub fn check(image: &'a [u8]) -> Outcome<Theory<'a>> {
         if image.len() < HEADER {
             return refuse(1, 0);
         }
         let (header, body) = image.split_at(HEADER);
-        let [atoms, nodes, roots] = [half(header, 0), half(header, 2), half(header, 4)];
-        if atoms > MOST_ATOMS || nodes > MOST_NODES || roots > MOST_ROOTS {
+        let [atoms, nodes, roots, pairs] = [half(header, 0), half(header, 2), half(header, 4), half(header, 6)];
+        if atoms > MOST_ATOMS || nodes > MOST_NODES || roots > MOST_ROOTS || pairs > MOST_PAIRS {
             return refuse(2, 0);
-        }
-        if half(header, 6) != 0 {
-            return refuse(3, 0);
         }
         let roots_at = HEADER + 6 * nodes;
         if word(header, 8) != HEADER || word(header, 12) != roots_at {
             return refuse(4, 0);
         }
-        let length = roots_at + 2 * roots;
+        let length = roots_at + 2 * roots + 4 * pairs;
         if image.len() != length {
             return refuse(5, length);
         }
         let count = nodes;
-        let (nodes, roots) = body.split_at(6 * count);
+        let (nodes, rest) = body.split_at(6 * count);
+        let (roots, pairs) = rest.split_at(2 * roots);
         if let Some((own, node)) = groups(nodes).enumerate().find(|&(own, node)| !fits(node, own, atoms)) {
             return refuse(6, 8 * own + wrong_field(node, own, atoms));
         }
         if let Some(bad) = groups::<2>(roots).position(|root| half(root, 0) >= count) {
             return refuse(7, bad);
         }
-        Ok(Theory { atoms, nodes, roots })
+        if let Some(bad) = groups(pairs).map(pair).position(|[first, second]| first >= second || second >= atoms) {
+            return refuse(15, bad);
+        }
+        Ok(Theory { atoms, nodes, roots, pairs })
     }
 
     pub fn nodes(&self) -> impl Iterator<Item = Node> + 'a {
@@ -58,6 +61,11 @@ impl<'a> Theory<'a> {
     /// The node numbers of the roots.
     pub fn roots(&self) -> impl Iterator<Item = usize> + 'a {
         groups::<2>(self.roots).map(|root| half(root, 0))
+    }
+
+    /// The two atoms of each pair.
+    pub fn pairs(&self) -> impl Iterator<Item = [usize; 2]> + 'a {
+        groups(self.pairs).map(pair)
     }
 
     /// The number of all atoms, labels included.
@@ -80,9 +88,16 @@ impl<'a> Theory<'a> {
         }
     }
 
+    #[inline(always)]
     pub fn satisfied(&self, reading: &[u8], values: &mut Values) -> bool {
         self.evaluate(reading, values);
-        self.roots().all(|root| values[root] == Value::TRUE)
+        self.roots().all(|root| values[root] == Value::TRUE) && self.pairs_hold(reading)
+    }
+
+    /// Whether "not both" has the value 2 for every pair.
+    fn pairs_hold(&self, reading: &[u8]) -> bool {
+        let value = |atom: usize| Value::of(reading[atom]);
+        self.pairs().all(|[first, second]| value(first).and(value(second)).not() == Value::TRUE)
     }
 }
 
@@ -141,4 +156,8 @@ fn node(bytes: &[u8; 6]) -> Node {
         5 => Node::Or(left, right),
         _ => Node::Implies(left, right),
     }
+}
+
+fn pair(bytes: &[u8; 4]) -> [usize; 2] {
+    [half(bytes, 0), half(bytes, 2)]
 }

@@ -4,7 +4,7 @@ use super::{all_readings, demand, sets, truths, Suite};
 use crate::calls::Call;
 use crate::compare::{hex, Checked};
 use crate::generate;
-use crate::lists::{self, Book};
+use crate::lists::{self, Book, Pair};
 use crate::node::Node;
 
 /// A book, its image and the image of its program, in which there are `all` atoms.
@@ -114,17 +114,17 @@ impl Suite<'_> {
     }
 
     /// Every book of up to three nodes over up to two atoms: with no root, every root, every two roots in both orders
-    /// and repeated, and with all nodes as roots.
+    /// and repeated, and with all nodes as roots; without a pair, and with the one pair of two atoms once and twice.
     pub fn every_small_book(&mut self, stride: usize) -> Checked<()> {
         let mut turn = 0;
         for atoms in 0..=2 {
             let readings = all_readings(atoms);
             let candidates: Vec<Vec<u8>> = (0..1 << atoms).map(|set| lists::reading(set, set, atoms)).collect();
             for nodes in small_node_lists(atoms) {
-                for roots in small_root_lists(nodes.len()) {
+                for (roots, pairs) in small_root_and_pair_lists(nodes.len(), atoms) {
                     turn += 1;
                     if turn % stride == 0 {
-                        let book = Book { atoms, nodes: nodes.clone(), roots };
+                        let book = Book { atoms, nodes: nodes.clone(), roots, pairs };
                         self.book(&book, &readings, &candidates, true)?;
                     }
                 }
@@ -137,8 +137,8 @@ impl Suite<'_> {
     pub fn random_books(&mut self, small: usize, large: usize) -> Checked<()> {
         for turn in 0..small {
             let atoms = if turn % 500 == 0 { self.random.within(7, 9) } else { self.random.below(7) };
-            let (nodes, roots) = (self.random.below(25), self.random.below(5));
-            let book = generate::book(&mut self.random, atoms, nodes, roots);
+            let (nodes, roots, pairs) = (self.random.below(25), self.random.below(5), self.random.below(4));
+            let book = generate::book(&mut self.random, atoms, nodes, roots, pairs);
             self.with_random_arguments(&book, 6, atoms, true)?;
         }
         for turn in 0..large {
@@ -149,7 +149,7 @@ impl Suite<'_> {
         }
         // Listings of the most atoms that are listed.
         for _ in 0..(large / 300).max(1) {
-            let book = generate::book(&mut self.random, 12, 30, 3);
+            let book = generate::book(&mut self.random, 12, 30, 3, 2);
             self.listing(&book, &book.image())?;
         }
         Ok(())
@@ -158,11 +158,11 @@ impl Suite<'_> {
     /// A book of any size, or one with the longest program for its size.
     fn large_book(&mut self, longest: bool) -> Checked<()> {
         let atoms = self.size(1024);
-        let (nodes, roots) = (self.size(1024), self.size(256));
+        let (nodes, roots, pairs) = (self.size(1024), self.size(256), self.size(128));
         let random = &mut self.random;
         let mut book = match longest && nodes > 0 && atoms > 0 {
-            true => generate::longest(random, atoms, nodes, roots),
-            false => generate::book(random, atoms, nodes, roots),
+            true => generate::longest(random, atoms, nodes, roots, pairs),
+            false => generate::book(random, atoms, nodes, roots, pairs),
         };
         let reading = generate::reading(random, atoms);
         if random.chance(50) {
@@ -176,9 +176,9 @@ impl Suite<'_> {
     /// A book with a known answer set, of few atoms or of the most, so that a candidate test looks at every subset.
     fn book_of_facts(&mut self, most: bool) -> Checked<()> {
         let atoms = self.random.within(40, 1024);
-        let nodes = self.random.within(20, 300);
+        let (nodes, pairs) = (self.random.within(20, 300), self.size(128));
         let truths = if most { 16 } else { self.random.below(10) };
-        let (book, set) = generate::facts(&mut self.random, atoms, nodes, truths);
+        let (book, set) = generate::facts(&mut self.random, atoms, nodes, truths, pairs);
         self.yes(Call::TestTheory, &book.image(), &set)?;
         let mut near = set;
         near[self.random.below(atoms)] ^= 2;
@@ -233,6 +233,13 @@ fn small_root_lists(nodes: usize) -> Vec<Vec<usize>> {
     lists
 }
 
+/// These choices of roots, each with every choice of pairs that is tried over so many atoms, two at most.
+fn small_root_and_pair_lists(nodes: usize, atoms: usize) -> Vec<(Vec<usize>, Vec<Pair>)> {
+    let most = if atoms == 2 { 2 } else { 0 };
+    let with_pairs = |roots: Vec<usize>| (0..=most).map(move |pairs| (roots.clone(), vec![(0, 1); pairs]));
+    small_root_lists(nodes).into_iter().flat_map(with_pairs).collect()
+}
+
 #[cfg(test)]
 mod tests {
     use super::*;
@@ -243,5 +250,6 @@ mod tests {
         assert_eq!(small_node_lists(2).len(), 1 + 4 + 4 * 8 + 4 * 8 * 18);
         assert_eq!(small_root_lists(3).len(), 1 + 3 + 9 + 1);
         assert_eq!(small_root_lists(0).len(), 1);
+        assert_eq!([0, 1, 2].map(|atoms| small_root_and_pair_lists(3, atoms).len()), [14, 14, 42]);
     }
 }

@@ -1,23 +1,23 @@
-//! The bench cases and the examples of the papers, and flat programs under a solver that is none of ours.
+//! Examples worked out beforehand, and flat programs under a solver that is none of ours.
 
 use super::{all_readings, demand, sets, Suite};
 use crate::calls::Call;
 use crate::compare::{hex, Checked, Finding};
-use crate::lists::{self, Program};
+use crate::lists::{self, Book, Program};
 use crate::worked::{self, Equivalence, Example, Models};
 use crate::{generate, solver};
 
 impl Suite<'_> {
-    /// The bench cases and the examples of the papers.
+    /// The bench cases, the examples of the papers and small books with pairs.
     pub fn worked_examples(&mut self) -> Checked<()> {
-        for example in worked::cases().iter().chain(&worked::examples()) {
+        for example in [worked::cases(), worked::examples(), worked::pairs()].iter().flatten() {
             self.example(example)?;
         }
         for models in worked::models() {
             self.models(&models)?;
         }
-        for pair in worked::equivalences() {
-            self.equivalence(&pair)?;
+        for equivalence in worked::equivalences() {
+            self.equivalence(&equivalence)?;
         }
         Ok(())
     }
@@ -37,9 +37,10 @@ impl Suite<'_> {
         self.book(book, &readings, &candidates, true)
     }
 
-    fn models(&mut self, Models { source, book, pairs }: &Models) -> Checked<()> {
+    fn models(&mut self, Models { source, book, worlds }: &Models) -> Checked<()> {
         let image = book.image();
-        let listed: Vec<Vec<u8>> = pairs.iter().map(|&(here, there)| lists::reading(here, there, book.atoms)).collect();
+        let listed: Vec<Vec<u8>> =
+            worlds.iter().map(|&(here, there)| lists::reading(here, there, book.atoms)).collect();
         for reading in all_readings(book.atoms) {
             let satisfied = self.accepted(Call::EvaluateTheory, &image, &reading)? == 1;
             demand(satisfied == listed.contains(&reading), Call::EvaluateTheory, &image, || {
@@ -59,29 +60,40 @@ impl Suite<'_> {
         demand(equal == *holds, Call::EvaluateTheory, &first, || format!("{source}: beside {}", hex(&second)))
     }
 
-    /// The answer sets of flat programs by a solver, against the listing of their books.
-    pub fn solver(&mut self, programs: usize) -> Checked<()> {
-        for _ in 0..programs {
-            let (atoms, nodes, roots) = (self.random.below(7), self.random.below(22), self.random.below(5));
-            let book = generate::book(&mut self.random, atoms, nodes, roots);
-            let image = book.image();
-            let answer = self.comparer.expect(Call::ListSets, &image, &[], 128, 0, None)?;
-            let listed = sets(self.comparer.written());
-            let flat = book.flat();
-            let (_, bytes) = self.output(Call::Translate, &image, &[], 16 + 10 * flat.rules.len())?;
-            let mut expected = Vec::with_capacity(answer.result);
-            for set in listed {
-                let (_, extended) = self.output(Call::Extend, &image, &lists::reading(set, set, atoms), flat.all)?;
-                expected.push((0..flat.all).filter(|&atom| extended[atom] == 2).collect::<Vec<usize>>());
-            }
-            expected.sort_unstable();
-            let mut found = solver::answer_sets(&Program::read(&bytes))
-                .map_err(|error| Finding(format!("the solver could not be asked: {error}\n")))?;
-            found.sort_unstable();
-            demand(found == expected, Call::ListSets, &image, || {
-                format!("the solver finds {found:?} for the program, the listing with labels gives {expected:?}")
-            })?;
+    /// The answer sets of the flat programs of so many books by a solver. Each book has pairs, or none has.
+    pub fn solver(&mut self, books: usize, pairs: bool) -> Checked<()> {
+        for _ in 0..books {
+            let book = if pairs { self.small_book_with_pairs() } else { self.small_book() };
+            self.solved(&book)?;
         }
         Ok(())
+    }
+
+    /// A small book without pairs.
+    fn small_book(&mut self) -> Book {
+        let (atoms, nodes, roots) = (self.random.below(7), self.random.below(22), self.random.below(5));
+        generate::book(&mut self.random, atoms, nodes, roots, 0)
+    }
+
+    /// The solver finds the sets that the listing gives, with the labels that extension gives, and so does brute force.
+    fn solved(&mut self, book: &Book) -> Checked<()> {
+        let image = book.image();
+        let listed = self.listed(book)?;
+        let flat = book.flat();
+        let (_, bytes) = self.output(Call::Translate, &image, &[], 16 + 10 * flat.rules.len())?;
+        let mut expected = Vec::with_capacity(listed.len());
+        for &set in &listed {
+            let (_, extended) = self.output(Call::Extend, &image, &lists::reading(set, set, book.atoms), flat.all)?;
+            expected.push((0..flat.all).filter(|&atom| extended[atom] == 2).collect::<Vec<usize>>());
+        }
+        expected.sort_unstable();
+        let mut found = solver::answer_sets(&Program::read(&bytes))
+            .map_err(|error| Finding(format!("the solver could not be asked: {error}\n")))?;
+        found.sort_unstable();
+        demand(found == expected, Call::ListSets, &image, || {
+            format!("the solver finds {found:?} for the program, the listing with labels gives {expected:?}")
+        })?;
+        let forced = book.answer_sets();
+        demand(listed == forced, Call::ListSets, &image, || format!("brute force gives {forced:?}"))
     }
 }

@@ -16,7 +16,8 @@ impl Suite<'_> {
         let mut tried = 0;
         while tried < books {
             let (atoms, nodes, roots) = (self.random.below(4), self.random.below(7), self.random.below(4));
-            let book = generate::book(&mut self.random, atoms, nodes, roots);
+            let pairs = self.random.below(3);
+            let book = generate::book(&mut self.random, atoms, nodes, roots, pairs);
             let all = book.flat().all;
             if all > 8 || all == atoms && !self.random.chance(20) {
                 continue;
@@ -51,8 +52,8 @@ impl Suite<'_> {
             }
         }
         for _ in 0..3 {
-            let (nodes, roots) = (self.random.within(1, 8), self.random.below(3));
-            let further = generate::book(&mut self.random, book.atoms, nodes, roots);
+            let (nodes, roots, pairs) = (self.random.within(1, 8), self.random.below(3), self.random.below(2));
+            let further = generate::book(&mut self.random, book.atoms, nodes, roots, pairs);
             self.labels_beside(book, &further, all, &satisfied)?;
         }
         Ok(())

@@ -27,7 +27,7 @@ impl Suite<'_> {
         for turn in 0..large {
             let all = self.size(3072);
             let atoms = self.random.below(all.min(1024) + 1);
-            let rules = self.size(6400);
+            let rules = self.size(6528);
             let program = generate::program(&mut self.random, atoms, all, rules);
             self.program(&program, 2)?;
             let all = self.random.within(30, 3072);

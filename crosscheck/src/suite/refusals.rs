@@ -47,7 +47,7 @@ impl Suite<'_> {
             (1, leaves(2), vec![1, 1, 2, 0], 7, 2),
         ];
         for (atoms, nodes, roots, number, place) in theories {
-            let book = Book { atoms, nodes, roots };
+            let book = Book::new(atoms, nodes, roots);
             self.comparer.expect(Call::CheckTheory, &book.image(), &[], 0, number, Some(place))?;
             if number == 0 {
                 self.with_random_arguments(&book, 3, 4, true)?;
@@ -58,7 +58,7 @@ impl Suite<'_> {
 
     fn candidate_limits(&mut self) -> Checked<()> {
         for truths in [0, 1, 15, 16, 17, 18, 1024] {
-            let book = Book { atoms: 1024, nodes: vec![Node::Atom(0)], roots: vec![0] };
+            let book = Book::new(1024, vec![Node::Atom(0)], vec![0]);
             let candidate: Vec<u8> = (0..1024).map(|atom| if atom < truths { 2 } else { 0 }).collect();
             self.book(&book, &[], &[candidate], true)?;
         }
@@ -76,8 +76,8 @@ impl Suite<'_> {
     /// The most labels: none for the first node, which can only be a leaf, and two for each other one.
     fn label_limits(&mut self) -> Checked<()> {
         for first in [Node::False, Node::True, Node::Atom(0), Node::Atom(1023)] {
-            for roots in [0, 256] {
-                let mut book = generate::longest(&mut self.random, 1024, 1024, roots);
+            for (roots, pairs) in [(0, 0), (256, 0), (256, 128)] {
+                let mut book = generate::longest(&mut self.random, 1024, 1024, roots, pairs);
                 book.nodes[0] = first;
                 self.with_random_arguments(&book, 3, 4, true)?;
                 let all = 1024 + 2 * 1023;
@@ -85,7 +85,7 @@ impl Suite<'_> {
             }
         }
         for first in [Node::Not(0), Node::And(0, 0), Node::Or(0, 0), Node::Implies(0, 0)] {
-            let mut book = generate::longest(&mut self.random, 1024, 1024, 256);
+            let mut book = generate::longest(&mut self.random, 1024, 1024, 256, 128);
             book.nodes[0] = first;
             for call in [Call::CheckTheory, Call::Translate, Call::Extend] {
                 self.comparer.expect(call, &book.image(), &[1; 1024], 0, 6, Some(2))?;
@@ -103,9 +103,9 @@ impl Suite<'_> {
             (1024, 3072, vec![fact(3071)], 0, 0),
             (1024, 3073, vec![fact(3071)], 22, 0),
             (1024, 1023, vec![], 22, 0),
-            (0, 1, vec![fact(0); 6400], 0, 0),
-            (0, 1, vec![fact(0); 6401], 22, 0),
-            (1024, 3072, vec![fact(3071); 6400], 0, 0),
+            (0, 1, vec![fact(0); 6528], 0, 0),
+            (0, 1, vec![fact(0); 6529], 22, 0),
+            (1024, 3072, vec![fact(3071); 6528], 0, 0),
             (0, 0, vec![], 0, 0),
             (0, 0, vec![empty.clone(); 3], 0, 0),
             (0, 0, vec![empty, fact(0)], 26, 1),
@@ -124,7 +124,7 @@ impl Suite<'_> {
     /// Every choice of wrong fields in a node of each kind: the first node, one in the middle and the last.
     pub fn broken_nodes(&mut self) -> Checked<()> {
         for (atoms, nodes) in [(0, 3), (1024, 1024)] {
-            let image = generate::book(&mut self.random, atoms, nodes, 2).image();
+            let image = generate::book(&mut self.random, atoms, nodes, 2, 2).image();
             self.yes(Call::CheckTheory, &image, &[])?;
             for own in [0, nodes / 2, nodes - 1] {
                 self.broken_node(&image, own)?;
@@ -139,23 +139,23 @@ impl Suite<'_> {
             for wrong in 1..16 {
                 let mut image = good.to_vec();
                 let place = damage::node(&mut self.random, &mut image, own, kind, wrong);
-                self.refused_node(&image, place)?;
+                self.refused(&image, 6, place)?;
                 // A later node changes nothing, though its first field is wrong.
                 if own < last {
                     damage::node(&mut self.random, &mut image, last, kind, 1);
-                    self.refused_node(&image, place)?;
+                    self.refused(&image, 6, place)?;
                 }
             }
         }
         Ok(())
     }
 
-    /// Every call that takes a theory refuses this one by row 6, with this place.
-    fn refused_node(&mut self, image: &[u8], place: usize) -> Checked<()> {
+    /// Every call that takes a theory refuses this one by this row, with this place.
+    pub(super) fn refused(&mut self, image: &[u8], number: u32, place: usize) -> Checked<()> {
         let reading = vec![0; get2(image, 0)];
         for call in Call::ALL.into_iter().filter(|call| !call.on_program()) {
             let room = self.random.pick(&[0, 4096]);
-            self.comparer.expect(call, image, &reading, room, 6, Some(place))?;
+            self.comparer.expect(call, image, &reading, room, number, Some(place))?;
         }
         Ok(())
     }
@@ -202,8 +202,8 @@ impl Suite<'_> {
                 let (all, rules) = (random.below(9), random.below(7));
                 generate::program(random, all / 2, all, rules).image()
             } else {
-                let (atoms, nodes, roots) = (random.below(6), random.below(9), random.below(4));
-                generate::book(random, atoms, nodes, roots).image()
+                let (atoms, nodes, roots, pairs) = (random.below(6), random.below(9), random.below(4), random.below(4));
+                generate::book(random, atoms, nodes, roots, pairs).image()
             };
             for _ in 0..random.within(1, 3) {
                 mutate(random, &mut image);
@@ -250,7 +250,7 @@ impl Broken {
 
     /// Breaks a row as often as it is to be.
     fn damage(&mut self, row: u32, mut damage: impl FnMut() -> usize) {
-        let several_places = matches!(row, 6 | 7 | 10 | 26);
+        let several_places = matches!(row, 6 | 7 | 10 | 15 | 26);
         for _ in 0..1 + usize::from(self.twice && several_places) {
             self.note(row, damage());
         }
@@ -261,7 +261,7 @@ impl Broken {
         let low = if self.has(11) { 20 } else { 1 };
         let all = random.within(low, if self.large { 3072 } else { low + 20 });
         let given = random.below(all.min(1024) + 1);
-        let rules = random.within(1, if self.large { 6400 } else { 8 });
+        let rules = random.within(1, if self.large { 6528 } else { 8 });
         let mut image = generate::program(random, given, all, rules).image();
         for row in damage::PROGRAM_ORDER {
             if self.has(row) {
@@ -273,17 +273,19 @@ impl Broken {
 
     /// A theory image, with its number of atoms and the room that the call needs.
     fn theory(&mut self, random: &mut Random, call: Call) -> (Vec<u8>, usize, usize) {
+        // Row 15 needs a pair, and that two atoms.
+        let fewest = usize::from(self.has(15));
         let atoms = match call {
             Call::ListSets if self.has(11) => random.within(13, 40),
-            Call::ListSets => random.within(1, 4),
+            Call::ListSets => random.within(1 + fewest, 4),
             _ if self.has(11) => random.within(20, 60),
-            _ => random.within(1, if self.large { 1024 } else { 20 }),
+            _ => random.within(1 + fewest, if self.large { 1024 } else { 20 }),
         };
-        let (nodes, roots) = match self.large {
-            true => (random.within(1, 1024), random.within(1, 256)),
-            false => (random.within(1, 12), random.within(1, 5)),
+        let (nodes, roots, pairs) = match self.large {
+            true => (random.within(1, 1024), random.within(1, 256), random.within(fewest, 128)),
+            false => (random.within(1, 12), random.within(1, 5), random.within(fewest, 4)),
         };
-        let mut book = generate::book(random, atoms, nodes, roots);
+        let mut book = generate::book(random, atoms, nodes, roots, pairs);
         if call == Call::ListSets {
             book.nodes[0] = Node::True;
             book.roots.fill(0);
