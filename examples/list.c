@@ -12,8 +12,8 @@
 #include <stdio.h>
 #include "rulebook.h"
 
-/* The longest image, the bytes of 4,096 sets, and the longest program. */
-enum { LONGEST = 6672, ROOM = 8192, PROGRAM = 64016 };
+/* The longest image, the bytes of 4,096 sets, and the longest program of a book. */
+enum { LONGEST = 7184, ROOM = 8192, PROGRAM = 65236 };
 
 /* One byte more than the longest image: a file that fills it is too long, and refused by row 5 or an earlier one. */
 static uint8_t image[LONGEST + 1];

@@ -14,8 +14,7 @@
  *
  *  number  refused because                                     place
  *  1       theory shorter than 16 bytes                        0
- *  2       A, N or R over its limit (1,024, 1,024, 256)        0
- *  3       bytes 6-7 of the theory not zero                    0
+ *  2       A, N, R or P over its limit, see below              0
  *  4       an offset of the theory differs                     0
  *  5       length of the theory differs                        length wanted
  *  6       a node breaks its row, or its zero byte is not 0    8 * node + field, see below
@@ -24,13 +23,20 @@
  *  9       reading's length is not the atom count              count wanted
  *  10      a byte over 2; for a candidate also a byte 1        first such index
  *  11      over 16 true atoms; for a listing A over 12         that number
+ *  15      a pair is not of two atoms below A, smaller first   first such pair's index
  *  21      program shorter than 16 bytes                       0
- *  22      A, B or K outside its limits (1,024, 3,072, 6,400)  0
+ *  22      A, B or K outside its limits (1,024, 3,072, 6,528)  0
  *  23      bytes 6-7 of the program not zero                   0
  *  24      rule offset or total length field differs           0
  *  25      length of the program differs from the total        length wanted
  *  26      a rule is malformed                                 first such rule
  *
+ * A theory image has A atoms, N nodes, R roots and P pairs, at most 1,024, 1,024, 256 and
+ * 128, and is 16 + 6N + 2R + 4P bytes long: its header, in which bytes 6-7 are P, the
+ * nodes, the roots, and the pairs, two bytes for each of the two atoms. A pair stands for
+ * the formula `not both`, beside the roots: for a reading and its strong negation.
+ *
+ * Its rows are tested in the order 1, 2, 4, 5, 6, 7, 15, and before all others of a call.
  * The place of 6 divided by 8 is the first such node, and the remainder is the first of
  * its fields that is wrong: 0 the kind (over 6), 1 the zero byte, 2 left, 3 right.
  */
@@ -50,32 +56,32 @@ struct rulebook_answer {
     size_t result;
 };
 
-/* Checks a theory image. Rows 1-7. Result: 1. */
+/* Checks a theory image. A theory's rows. Result: 1. */
 struct rulebook_answer rulebook_check_theory(
     const uint8_t *theory, size_t theory_length);
 
-/* Whether a reading, a byte 0, 1 or 2 for each of the A atoms, satisfies a theory. Rows 1-7, 9, 10. Result: 1 or 0. */
+/* Whether a reading, a byte 0, 1 or 2 for each of the A atoms, satisfies a theory. A theory's rows, 9, 10. Result: 1 or 0. */
 struct rulebook_answer rulebook_evaluate_theory(
     const uint8_t *theory, size_t theory_length,
     const uint8_t *reading, size_t reading_length);
 
-/* Writes the flat program of a theory, 16 + 10K bytes. Rows 1-7, 8. Result: K, the number of its rules. */
+/* Writes the flat program of a theory, 16 + 10K bytes and at most 65,236. A theory's rows, 8. Result: K, the number of its rules, at most 6,522. */
 struct rulebook_answer rulebook_translate(
     const uint8_t *theory, size_t theory_length,
     uint8_t *out, size_t out_length);
 
-/* Writes the A bytes of a reading and then the value of each label, B bytes in all and at most 3,070, also for a reading that does not satisfy. Rows 1-7, 9, 10, 8. Result: B. */
+/* Writes the A bytes of a reading and then the value of each label, B bytes in all and at most 3,070, also for a reading that does not satisfy. A theory's rows, 9, 10, 8. Result: B. */
 struct rulebook_answer rulebook_extend(
     const uint8_t *theory, size_t theory_length,
     const uint8_t *reading, size_t reading_length,
     uint8_t *out, size_t out_length);
 
-/* Whether a candidate, a byte 0 or 2 for each of the A atoms, is an answer set of a theory. Rows 1-7, 9, 10, 11. Result: 1 or 0. */
+/* Whether a candidate, a byte 0 or 2 for each of the A atoms, is an answer set of a theory. A theory's rows, 9, 10, 11. Result: 1 or 0. */
 struct rulebook_answer rulebook_test_theory(
     const uint8_t *theory, size_t theory_length,
     const uint8_t *candidate, size_t candidate_length);
 
-/* Writes each answer set of a theory as a 2-byte number in which atom i weighs 2 to the i, ascending. Rows 1-7, 11, 8. Result: their count. */
+/* Writes each answer set of a theory as a 2-byte number in which atom i weighs 2 to the i, ascending. A theory's rows, 11, 8. Result: their count. */
 struct rulebook_answer rulebook_list_sets(
     const uint8_t *theory, size_t theory_length,
     uint8_t *out, size_t out_length);

@@ -2,7 +2,7 @@
 use mathlib.Core.Path.{_≡_, refl}
 use mathlib.Core.Logic.{⊎-elim}
 use mathlib.Core.Bool.{true}
-use mathlib.Core.List.{List, [], _∷_, _++_, map}
+use mathlib.Core.List.{List, [], _∷_, _++_}
 use Prim.Native.Nat.{ℕ, _+_, _*_, _-_, _≤_}
 use native.Mathlib.Omega.{arith}
 use lib.ListN.{length, replicate, length-append, length-map}
@@ -13,7 +13,7 @@ use Rattle.theory.specs.Book.{Kind, falseKind, atomKind, impliesKind, Node, Boo
 use Rattle.theory.proofs.Books.{fits-left, fits-right}
 use Rattle.program.specs.Rule.{RuleOf}
 use Rattle.flat.specs.Table.{Slot, rows, labelCount}
-use Rattle.flat.specs.Flat.{Term, removes, simplify, mapRule, instances, fill, termAt, nodeRules, term, fact, facts, pairRule, rulesFrom, labelTotal, flat, largestB, largestK}
+use Rattle.flat.specs.Flat.{Term, removes, simplify, mapRule, instances, fill, termAt, term, fact, facts, rulesFrom, labelTotal, flat, largestB, largestK}
 use Rattle.flat.proofs.ByKind.{labelCount-le, rows-le, operands}
 
 -- Node 0 has no row and takes no label: it would have operands.

@@ -1,7 +1,7 @@
 -- What is promised, in document 01's order. Each statement uses only definitions of specs/, and each proof cites the law behind it.
 use mathlib.Core.Path.{_≡_, refl, sym, _∙_}
 use mathlib.Core.Logic.{_↔_}
-use mathlib.Core.Bool.{Bool, true, not, cond}
+use mathlib.Core.Bool.{Bool, true, false, not, _&&_, cond}
 use mathlib.Core.List.{List, _∷_, _++_, map, List·Memᴰ}
 use Prim.Native.Nat.{ℕ, suc, min, max, _/_, _%_, _≤_, _<_}
 use native.Mathlib.Omega.{arith}
@@ -21,7 +21,7 @@ use Rattle.logic.specs.declared.Value.{Value}
 use Rattle.logic.specs.declared.Value.the-variants.{Both}
 use Rattle.logic.specs.Value.{number, smaller, larger, negation, implication}
 use Rattle.logic.specs.Formula.{Formula, Reading, readingOf, valueOf, value, satisfies, AllOver}
-use Rattle.logic.specs.Atoms.{Atoms, hereOf, thereOf}
+use Rattle.logic.specs.Atoms.{Atoms, member, hereOf, thereOf}
 use Rattle.logic.specs.HereAndThere.{here, there, truth, Equilibrium}
 use Rattle.logic.specs.AnswerSet.{AnswerSet, isAnswerSet, answerSets}
 use Rattle.logic.proofs.Values
@@ -249,6 +249,11 @@ equilibrium = AnswerSets.equilibrium-iff
 -- A pair means not both: its formula has the value 2 exactly if the smaller of the two atoms' values is 0.
 pair : (I : Reading) (p : Pair) → (value I (pairFormula p) ≡ Both) ↔ (min (number (valueOf I (p .first))) (number (valueOf I (p .second))) ≡ 0)
 pair = PairLaws.pair-iff
+
+-- So pairs strike out answer sets, and do nothing else: a book's are those of its roots' formulas that hold no two atoms of a pair.
+paired : (b : Book) (T : Atoms) → AnswerSet (b .atoms) (bookFormulas b) T
+    ↔ (AnswerSet (b .atoms) (map (formulaAt (nodeFormulas b)) (b .roots)) T × ((p : Pair) → List·Memᴰ p (b .pairs) → (member T (p .first) && member T (p .second)) ≡ false))
+paired b = PairLaws.pairs-strike (b .atoms) (map (formulaAt (nodeFormulas b)) (b .roots)) (b .pairs)
 
 rule : (J : Reading) (r : Rule) → (holds (valueOf J) r ≡ true) ↔ (value J (ruleFormula r) ≡ Both)
 rule = Rules.rule-iff

@@ -14,7 +14,7 @@ use Rattle.program.specs.Program.{programFormulas}
 use Rattle.program.specs.Image.{sizeOf, programOf}
 use Rattle.program.specs.Rows.{programRows}
 
--- The image's own rows: 21 to 26 for a program, 1 to 7 for a theory.
+-- The image's own rows: a program's, or a theory's.
 abbrev pub imageRows : (isProgram : Bool) → List ℕ → List Row
 imageRows true p = programRows p
 imageRows false t = theoryRows t

@@ -3,7 +3,6 @@ use mathlib.Core.Path.{_≡_, ap}
 use mathlib.Core.List.{List}
 use Prim.Native.Nat.{ℕ}
 use native.Mathlib.Omega.{arith}
-use lib.Dec.{eqb}
 use lib.ListN.{drop, length-drop}
 use denote.Ref.{now}
 use borrow.Author.Needs.{needs}
