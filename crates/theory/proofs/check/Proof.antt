@@ -74,25 +74,23 @@ root-is c =
     let t = image (to-header (c .before .before .before .before)) in
     rw (← roots-are c, ← part-from (rootsStart (nodeCount t)) t, ← start-is c, ← nodes-are (to-node (c .before .before .before .before))) (c .first-root-not-below .ensures)
 
-abbrev to-node2 : tie.Else3 → tie.Else2
-to-node2 c = c .before .before .before .before .before
+-- the way back from behind the roots
+abbrev from-roots : tie.Else3 → tie.Else1
+from-roots c = to-header (c .before .before .before .before .before)
 
-past7 : (c : tie.Else3) → let t = image (to-header (to-node2 c)) in Reached (theoryRows t) 1 (row15 t ∷ [])
-past7 c = first-next 7 (λ k. k) _ _ _ (root-is (c .before)) (past6 (to-node2 c)) (rw (roots-are (c .before)) at (c .if3 .left))
+past7 : (c : tie.Else3) → let t = image (from-roots c) in Reached (theoryRows t) 1 (row15 t ∷ [])
+past7 c = first-next 7 (λ k. k) _ _ _ (root-is (c .before)) (past6 (c .before .before .before .before .before)) (rw (roots-are (c .before)) at (c .if3 .left))
 
 abbrev to-root : tie.After-first-bad-pair → tie.Else3
 to-root c = c .before .before .before .before .before
 
-abbrev image15 : tie.Else3 → List ℕ
-image15 c = image (to-header (to-node2 c))
-
-pairs-are : (c : tie.After-first-bad-pair) → c .before .before .before .before .pairs .result ≡ pairCount (image15 (to-root c))
+pairs-are : (c : tie.After-first-bad-pair) → c .before .before .before .before .pairs .result ≡ pairCount (image (from-roots (to-root c)))
 pairs-are c = c .before .before .before .before .pairs .ensures .0
 
 -- the pair found is its row's place
-pair-is : (c : tie.After-first-bad-pair) → c .first-bad-pair .result ≡ row15 (image15 (to-root c)) .place
+pair-is : (c : tie.After-first-bad-pair) → c .first-bad-pair .result ≡ row15 (image (from-roots (to-root c))) .place
 pair-is c =
-    let t = image15 (to-root c) in
+    let t = image (from-roots (to-root c)) in
     rw (← pairs-are c, ← part-from (pairsStart (nodeCount t) (rootCount t)) t, ← c .before .before .before .pairs-start .ensures .0, ← c .before .atoms3 .ensures .0) (c .first-bad-pair .ensures)
 
 header-requires : tie.Need-header-requires
@@ -188,26 +186,26 @@ returns-3 c =
     first-refused 7 (λ k. k) _ _ _ (root-is found) (past6 (found .before .before .before .before)) (rw (roots-are found) at (c .before .if3 .taken)) (c .refuse2 .ensures)
 
 pairs-requires : tie.Need-pairs-requires
-pairs-requires c κs = is-header (to-header (to-node2 c)) .long
+pairs-requires c κs = is-header (from-roots c) .long
 
 pairs-start-requires : tie.Need-pairs-start-requires
-pairs-start-requires c κs = is-header (to-header (to-node2 (c .before))) .long
+pairs-start-requires c κs = is-header (from-roots (c .before)) .long
 
 sub-first-bad-pair : tie.Need-sub-first-bad-pair
-sub-first-bad-pair c = omega (arith, is-header (to-header (to-node2 (c .before .before))), c .pairs-start .ensures .0)
+sub-first-bad-pair c = omega (arith, is-header (from-roots (c .before .before)), c .pairs-start .ensures .0)
 
 part-first-bad-pair-start : tie.Need-part-first-bad-pair-start
-part-first-bad-pair-start c = omega (arith, is-header (to-header (to-node2 (c .before .before))), c .pairs-start .ensures .0)
+part-first-bad-pair-start c = omega (arith, is-header (from-roots (c .before .before)), c .pairs-start .ensures .0)
 
 part-first-bad-pair-end : tie.Need-part-first-bad-pair-end
 part-first-bad-pair-end c = search needs
 
 atoms-requires-3 : tie.Need-atoms-requires-3
-atoms-requires-3 c κs = is-header (to-header (to-node2 (c .before .before .before))) .long
+atoms-requires-3 c κs = is-header (from-roots (c .before .before .before)) .long
 
 first-bad-pair-requires : tie.Need-first-bad-pair-requires
 first-bad-pair-requires c κs =
-    let head = is-header (to-header (to-node2 (c .before .before .before .before))) in
+    let head = is-header (from-roots (c .before .before .before .before)) in
     rw (part-from, length-drop) (omega (arith, head, c .before .before .pairs-start .ensures .0, c .before .before .before .pairs .ensures .0))
 
 refuse-requires-3 : tie.Need-refuse-requires-3
