@@ -46,7 +46,7 @@ size-reached = (widest, record { nodes-fit = refl; roots-below = refl; pairs-fit
 
 -- ---- K
 
-pub length-simplify : (r : RuleOf Term) → length (simplify r) ≤ 1
+length-simplify : (r : RuleOf Term) → length (simplify r) ≤ 1
 length-simplify r = cases (removes r) (λ t. rw t (omega arith)) (λ f. rw f (omega arith))
 
 length-instances : (f : Slot → Term) (rs : List (RuleOf Slot)) → length (instances f rs) ≤ length rs
