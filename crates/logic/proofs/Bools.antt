@@ -1,6 +1,6 @@
 -- Laws of Bool that turn a computed test into facts and back, each by its cases.
 use mathlib.Core.Path.{_≡_, refl, sym, _∙_}
-use mathlib.Core.Logic.{_↔_}
+use mathlib.Core.Logic.{_↔_, _⊎_, inl, inr, ⊎-elim}
 use mathlib.Core.Bool.{Bool, true, false, _&&_, _||_, Bool·beq, false≢true, and-eq-true-iff}
 
 pub &&-split : (a b : Bool) → (a && b) ≡ true → (a ≡ true) × (b ≡ true)
@@ -36,3 +36,7 @@ beq-sound false false h = refl
 pub ||-split : (a b : Bool) → (a || b) ≡ false → (a ≡ false) × (b ≡ false)
 ||-split true b h = (h, cc)
 ||-split false b h = (refl, h)
+
+pub ||-iff : (a b : Bool) → ((a || b) ≡ true) ↔ ((a ≡ true) ⊎ (b ≡ true))
+||-iff true b = (λ h. inl refl, λ h. refl)
+||-iff false b = (λ h. inr h, ⊎-elim (λ h. absurd (false≢true h)) (λ h. h))

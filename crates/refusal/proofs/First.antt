@@ -1,7 +1,7 @@
 -- Laws of the first number at which a test holds, by induction on the bound; and what a loop that tries 0, 1, .. in turn needs of it. Assumes nothing.
-use mathlib.Core.Path.{_≡_, sym, _∙_}
+use mathlib.Core.Path.{_≡_, refl, sym, ap₂, _∙_}
 use mathlib.Core.Logic.{_↔_, ⊎-elim}
-use mathlib.Core.Bool.{Bool, true, false, true≢false}
+use mathlib.Core.Bool.{Bool, true, false, cond, true≢false}
 use mathlib.Core.List.{List, _∷_}
 use Prim.Native.Nat.{ℕ, zero, suc, _+_, _≤_, _<_}
 use native.Mathlib.Nat.{eq-or-lt-of-le, le-of-suc-le-suc, not-suc-le-zero}
@@ -32,6 +32,12 @@ first-at : (test : ℕ → Bool) (n : ℕ) → first test n < n → test (first 
 unfolding first
 first-at test zero h = absurd (not-suc-le-zero h)
 first-at test (suc n) h = cases (test 0) (λ t. rw t t) (λ t. rw t (first-at (λ k. test (suc k)) n (le-of-suc-le-suc (rw t at h))))
+
+-- tests that agree below the bound have the same first number
+pub first-equal : (test other : ℕ → Bool) (n : ℕ) → ((k : ℕ) → k < n → test k ≡ other k) → first test n ≡ first other n
+unfolding first
+first-equal test other zero h = refl
+first-equal test other (suc n) h = ap₂ (λ (b : Bool) (m : ℕ). cond b 0 (suc m)) (h 0 (omega arith)) (first-equal (λ k. test (suc k)) (λ k. other (suc k)) n (λ k l. h (suc k) (omega arith)))
 
 module _ (test : ℕ → Bool) (n k : ℕ) (not-passed : k ≤ first test n) where
   -- a loop that tries 0, 1, .. and has come to k: where it finds the test, that is the first such number,

@@ -1,6 +1,6 @@
 -- What is promised, in document 01's order. Each statement uses only definitions of specs/, and each proof cites the law behind it.
 use mathlib.Core.Path.{_≡_, refl, sym, _∙_}
-use mathlib.Core.Logic.{_↔_}
+use mathlib.Core.Logic.{_↔_, _⊎_}
 use mathlib.Core.Bool.{Bool, true, false, not, _&&_, cond}
 use mathlib.Core.List.{List, _∷_, _++_, map, List·Memᴰ}
 use Prim.Native.Nat.{ℕ, suc, min, max, _/_, _%_, _≤_, _<_}
@@ -28,13 +28,15 @@ use Rattle.logic.proofs.Values
 use Rattle.logic.proofs.Worlds
 use Rattle.logic.proofs.AnswerSets
 use Rattle.theory.specs.Book.{Pair, Book, nodeAt, impliesKind, pairFits, WellFormed, formulaAt, nodeFormulas, pairFormula, bookFormulas}
-use Rattle.theory.specs.BenchCases.{BenchCase, benchCases, atomsFrom, setsOf}
+use Rattle.theory.specs.BenchCases.{BenchCase, benchCases, atomsFrom, setsOf, usesOf, useCases}
 use Rattle.theory.specs.Image.{atomCount, nodeCount, rootCount, pairCount, nodeSection, rootSection, pairSection, fieldWrong, breaks, rootIn, pairIn, bookOf}
-use Rattle.theory.specs.Rows.{row6, row7, row15, headerRows, theoryRows}
+use Rattle.theory.specs.Used.{operands, used}
+use Rattle.theory.specs.Rows.{row6, row7, row13, row15, headerRows, formRows, theoryRows}
 use Rattle.theory.proofs.Rows as Rows
 use Rattle.theory.proofs.Rows.{numbered-theoryRows}
 use Rattle.theory.proofs.Accepted
 use Rattle.theory.proofs.PairLaws
+use Rattle.theory.proofs.Used as Uses
 use Rattle.theory.proofs.BenchCases as books
 use Rattle.program.specs.Rule.{Rule, holds, ruleFormula}
 use Rattle.program.specs.Program.{Program, satisfiesProgram, programFormulas}
@@ -80,7 +82,7 @@ evaluateTheory-unique : (t r : List ℕ) (a b : Answer) → EvaluatesTheory t r 
 evaluateTheory-unique t r a b d e = d ∙ sym e
 
 evaluateTheory-exact : (t r : List ℕ) → Exact (evaluateTheoryRows t r) (yes (satisfies (readingOf r) (bookFormulas (bookOf t)))) (evaluateTheory t r)
-evaluateTheory-exact t r = unfold theoryRows headerRows argumentRows in answer-exact (evaluateTheoryRows t r) _ refl
+evaluateTheory-exact t r = unfold theoryRows formRows headerRows argumentRows in answer-exact (evaluateTheoryRows t r) _ refl
 
 checkProgram-unique : (p : List ℕ) (a b : Answer) → ChecksProgram p a → ChecksProgram p b → a ≡ b
 checkProgram-unique p a b d e = d ∙ sym e
@@ -98,19 +100,19 @@ translate-unique : (t o : List ℕ) (a b : Answer) (left right : List ℕ) → T
 translate-unique t o a b left right d e = Outcome.outcome-both (d ∙ sym e)
 
 translate-exact : (t o : List ℕ) → Exact (translateCallRows t o) (ruleTotal t) (translate t o .answer)
-translate-exact t o = unfold theoryRows headerRows translateRows in answer-exact (translateCallRows t o) _ refl
+translate-exact t o = unfold theoryRows formRows headerRows translateRows in answer-exact (translateCallRows t o) _ refl
 
 extend-unique : (t r o : List ℕ) (a b : Answer) (left right : List ℕ) → ExtendsReading t r o a left → ExtendsReading t r o b right → (a ≡ b) × (left ≡ right)
 extend-unique t r o a b left right d e = Outcome.outcome-both (d ∙ sym e)
 
 extend-exact : (t r o : List ℕ) → Exact (extendCallRows t r o) (flat (bookOf t) .size) (extend t r o .answer)
-extend-exact t r o = unfold theoryRows headerRows extendRows argumentRows in answer-exact (extendCallRows t r o) _ refl
+extend-exact t r o = unfold theoryRows formRows headerRows extendRows argumentRows in answer-exact (extendCallRows t r o) _ refl
 
 testTheory-unique : (t c : List ℕ) (a b : Answer) → TestsTheory t c a → TestsTheory t c b → a ≡ b
 testTheory-unique t c a b d e = d ∙ sym e
 
 testTheory-exact : (t c : List ℕ) → Exact (testTheoryRows t c) (yes (isAnswerSet (atomCount t) (bookFormulas (bookOf t)) (setOf c))) (testTheory t c)
-testTheory-exact t c = unfold theoryRows headerRows argumentRows in answer-exact (testTheoryRows t c) _ refl
+testTheory-exact t c = unfold theoryRows formRows headerRows argumentRows in answer-exact (testTheoryRows t c) _ refl
 
 testProgram-unique : (p c : List ℕ) (a b : Answer) → TestsProgram p c a → TestsProgram p c b → a ≡ b
 testProgram-unique p c a b d e = d ∙ sym e
@@ -122,7 +124,7 @@ listSets-unique : (t o : List ℕ) (a b : Answer) (left right : List ℕ) → Li
 listSets-unique t o a b left right d e = Outcome.outcome-both (d ∙ sym e)
 
 listSets-exact : (t o : List ℕ) → Exact (listSetsRows t o) (length (bookSets t)) (listSets t o .answer)
-listSets-exact t o = unfold theoryRows headerRows setsRows in answer-exact (listSetsRows t o) _ refl
+listSets-exact t o = unfold theoryRows formRows headerRows setsRows in answer-exact (listSetsRows t o) _ refl
 
 -- A refusal leaves the output as it was; an acceptance writes the bytes and leaves those past them.
 
@@ -152,13 +154,16 @@ row6-first : (t : List ℕ) → row6 t .applies ≡ true → let node = row6 t .
     FirstAt (breaks (atomCount t) (nodeSection t)) (nodeCount t) node × FirstAt (fieldWrong (atomCount t) (nodeSection t) node) 4 (row6 t .place % 8)
 row6-first = Rows.row6-first
 
--- The place of 7 is the first such root, that of 15 the first such pair, that of 26 the first such rule, that of 10 the first such index.
+-- The place of 7 is the first such root, that of 15 the first such pair, that of 13 the first node that is not used, that of 26 the first such rule, that of 10 the first such index.
 
 row7-first : (t : List ℕ) → row7 t .applies ≡ true → FirstAt (λ i. not (ltb (rootIn (rootSection t) i) (nodeCount t))) (rootCount t) (row7 t .place)
 row7-first t = first-is (λ i. not (ltb (rootIn (rootSection t) i) (nodeCount t))) (rootCount t)
 
 row15-first : (t : List ℕ) → row15 t .applies ≡ true → FirstAt (λ i. not (pairFits (atomCount t) (pairIn (pairSection t) i))) (pairCount t) (row15 t .place)
 row15-first t = first-is (λ i. not (pairFits (atomCount t) (pairIn (pairSection t) i))) (pairCount t)
+
+row13-first : (t : List ℕ) → row13 t .applies ≡ true → FirstAt (λ k. not (used (bookOf t) k)) (nodeCount t) (row13 t .place)
+row13-first t = first-is (λ k. not (used (bookOf t) k)) (nodeCount t)
 
 row26-first : (p : List ℕ) → row26 p .applies ≡ true → FirstAt (λ k. not (ruleKeeps (sizeOf p) (ruleSection p) k)) (ruleCount p) (row26 p .place)
 row26-first p = first-is (λ k. not (ruleKeeps (sizeOf p) (ruleSection p) k)) (ruleCount p)
@@ -170,25 +175,35 @@ row10-first candidate r = first-is (λ i. wrong candidate (getD r i 0)) (length 
 accepted-book : (t : List ℕ) → none (theoryRows t) ≡ true → WellFormed (bookOf t)
 accepted-book = Accepted.accepted-wellFormed
 
--- B of a book within the limits is at most 1,024 + 2 * 1,023, which one such book reaches; so B of an accepted image is within the program image's limit.
+-- Each of its nodes is used, which is to say that it is a root or an operand of a later node. Demand 3 over the definitions asks for neither: it is of every well-formed book.
+
+accepted-used : (t : List ℕ) → none (theoryRows t) ≡ true → (k : ℕ) → k < nodeCount t → used (bookOf t) k ≡ true
+accepted-used = Accepted.accepted-used
+
+used-iff : (b : Book) → WellFormed b → (k : ℕ)
+    → (used b k ≡ true) ↔ (List·Memᴰ k (b .roots) ⊎ ((j : ℕ) × (k < j) × (j < length (b .nodes)) × List·Memᴰ k (operands (nodeAt (b .nodes) j))))
+used-iff = Uses.used-iff
+
+-- B of a book within the limits is at most 1,024 + 2 * 1,023, which one such book reaches, each of its nodes used; so B of an accepted image is within the program image's limit.
 
 size-bound : (b : Book) → WellFormed b → b .atoms ≤ mostAtoms → length (b .nodes) ≤ mostNodes → flat b .size ≤ largestB
 size-bound = Sizes.size-bound
 
-size-reached : (b : Book) × WellFormed b × (b .atoms ≡ mostAtoms) × (length (b .nodes) ≡ mostNodes) × (flat b .size ≡ largestB)
+size-reached : (b : Book) × WellFormed b × ((k : ℕ) → k < length (b .nodes) → used b k ≡ true)
+    × (b .atoms ≡ mostAtoms) × (length (b .nodes) ≡ mostNodes) × (flat b .size ≡ largestB)
 size-reached = Sizes.size-reached
 
 accepted-size : (t : List ℕ) → none (theoryRows t) ≡ true → (flat (bookOf t) .size ≤ largestB) × (flat (bookOf t) .size ≤ mostB)
 accepted-size t ok = let h = Writable.accepted-size t ok in (h, omega arith)
 
--- K of a book within the limits is at most 6 * 1,023 + 256 + 128, that is 6,522, which one such book reaches; so K of an accepted image is within the program image's limit.
+-- K of a book within the limits is at most 6 * 1,023 + 256 + 128, that is 6,522, which one such book reaches, each of its nodes used; so K of an accepted image is within the program image's limit.
 
 rules-bound : (b : Book) → WellFormed b → length (b .nodes) ≤ mostNodes → length (b .roots) ≤ mostRoots → length (b .pairs) ≤ mostPairs
     → length (flat b .rules) ≤ largestK
 rules-bound = Sizes.rules-bound
 
-rules-reached : (b : Book) × WellFormed b × (length (b .nodes) ≡ mostNodes) × (length (b .roots) ≡ mostRoots) × (length (b .pairs) ≡ mostPairs)
-    × (length (flat b .rules) ≡ largestK)
+rules-reached : (b : Book) × WellFormed b × ((k : ℕ) → k < length (b .nodes) → used b k ≡ true)
+    × (length (b .nodes) ≡ mostNodes) × (length (b .roots) ≡ mostRoots) × (length (b .pairs) ≡ mostPairs) × (length (flat b .rules) ≡ largestK)
 rules-reached = Sizes.rules-reached
 
 accepted-rules : (t : List ℕ) → none (theoryRows t) ≡ true → (ruleTotal t ≤ largestK) × (ruleTotal t ≤ mostRules)
@@ -200,7 +215,7 @@ never-14 : (t p r c o : List ℕ)
     → (checkTheory t .number ≡ 14 → ⊥) × (evaluateTheory t r .number ≡ 14 → ⊥) × (translate t o .answer .number ≡ 14 → ⊥)
     × (extend t r o .answer .number ≡ 14 → ⊥) × (testTheory t c .number ≡ 14 → ⊥) × (listSets t o .answer .number ≡ 14 → ⊥)
     × (checkProgram p .number ≡ 14 → ⊥) × (evaluateProgram p r .number ≡ 14 → ⊥) × (testProgram p c .number ≡ 14 → ⊥)
-unfolding theoryRows headerRows programRows argumentRows translateRows extendRows setsRows
+unfolding theoryRows formRows headerRows programRows argumentRows translateRows extendRows setsRows
 never-14 t p r c o =
     let never : (rows : List Row) (x : ℕ) → unused 14 rows ≡ true → answer rows x .number ≡ 14 → ⊥ = λ rows x h. answer-unused 14 rows x h (λ e. omega arith) in (
       never (theoryRows t) _ refl,
@@ -352,3 +367,7 @@ program-cases : (c : BenchCase) → List·Memᴰ c benchCases → (s : List ℕ)
     → List·Memᴰ s (c .sets)
     ↔ ((U : Atoms) × AnswerSet (flat (c .theory) .size) (programFormulas (flat (c .theory))) U × (atomsFrom 0 (take (c .theory .atoms) U) ≡ s))
 program-cases = programs.benchCases-programs
+
+-- Which nodes are used, of books that leave some out.
+uses : map (λ c. usesOf (c .theory)) useCases ≡ map (λ c. c .uses) useCases
+uses = books.useCases-used

@@ -1,4 +1,4 @@
--- What an image that no row refuses is like: each row that does not apply gives its fact, and together they make the book well formed.
+-- What an image that no row refuses is like: each row that does not apply gives its fact. Those of the form make the book well formed, and by the last every node is used.
 use mathlib.Core.Path.{_≡_}
 use mathlib.Core.Bool.{true, false}
 use mathlib.Core.List.{List, [], _∷_}
@@ -17,7 +17,8 @@ use Rattle.wire.proofs.Laws.{allBelow-each}
 use Rattle.wire.proofs.Sequence.{length-upTo, getD-upTo}
 use Rattle.theory.specs.Book.{Node, WellFormed, leftFits, rightFits, fits, pairFits}
 use Rattle.theory.specs.Image.{atomCount, nodeCount, rootCount, pairCount, imageLength, nodeSection, rootSection, pairSection, nodeIn, fieldWrong, breaks, rootIn, pairIn, bookOf}
-use Rattle.theory.specs.Rows.{row6, row7, row15, headerRows, theoryRows}
+use Rattle.theory.specs.Used.{used}
+use Rattle.theory.specs.Rows.{row6, row7, row13, row15, headerRows, formRows, theoryRows}
 use Rattle.theory.proofs.Books.{allFit-each}
 use Rattle.theory.proofs.PairLaws.{pairsFit-upTo}
 
@@ -30,8 +31,8 @@ pub record Header (t : List ℕ) : Type 0 where
   pub few-pairs : pairCount t ≤ mostPairs
   pub whole : length t ≡ imageLength (nodeCount t) (rootCount t) (pairCount t)
 
--- What all rows leave.
-pub record Accepted (t : List ℕ) : Type 0 where
+-- What the rows of the form leave.
+pub record Formed (t : List ℕ) : Type 0 where
   pub header : Header t
   pub nodes-keep : (k : ℕ) → k < nodeCount t → breaks (atomCount t) (nodeSection t) k ≡ false
   pub roots-below : (i : ℕ) → i < rootCount t → rootIn (rootSection t) i < nodeCount t
@@ -64,9 +65,9 @@ header-accepted t h =
       whole = eqb-true _ _ (not-false _ (clear 3));
     }
 
-pub accepted : (t : List ℕ) → none (theoryRows t) ≡ true → Accepted t
-unfolding theoryRows
-accepted t h =
+pub formed : (t : List ℕ) → none (formRows t) ≡ true → Formed t
+unfolding formRows
+formed t h =
     let parts = none-split (headerRows t) (row6 t ∷ row7 t ∷ row15 t ∷ []) h in
     let clear = none-at (row6 t ∷ row7 t ∷ row15 t ∷ []) (parts .1) in
     record {
@@ -76,10 +77,10 @@ accepted t h =
       pairs-fit = λ i l. not-false _ (first-none _ _ .0 (clear 2) i l);
     }
 
-pub accepted-wellFormed : (t : List ℕ) → none (theoryRows t) ≡ true → WellFormed (bookOf t)
+pub formed-wellFormed : (t : List ℕ) → none (formRows t) ≡ true → WellFormed (bookOf t)
 unfolding bookOf
-accepted-wellFormed t h =
-    let a = accepted t h in
+formed-wellFormed t h =
+    let a = formed t h in
     let N : ℕ = nodeCount t in
     let ns : List Node = upTo (nodeIn (nodeSection t)) N in
     let rs : List ℕ = upTo (rootIn (rootSection t)) (rootCount t) in
@@ -93,3 +94,18 @@ accepted-wellFormed t h =
           rw (counted, getD-upTo (rootIn (rootSection t)) (rootCount t) i 0 b) (a .roots-below i b));
       pairs-fit = pairsFit-upTo (atomCount t) (pairIn (pairSection t)) (pairCount t) (a .pairs-fit);
     }
+
+-- What all rows leave.
+module _ (t : List ℕ) (ok : none (theoryRows t) ≡ true) where
+  parts : (none (formRows t) ≡ true) × (none (row13 t ∷ []) ≡ true)
+  unfolding theoryRows
+  parts = none-split (formRows t) (row13 t ∷ []) ok
+
+  pub accepted : Formed t
+  accepted = formed t (parts .0)
+
+  pub accepted-wellFormed : WellFormed (bookOf t)
+  accepted-wellFormed = formed-wellFormed t (parts .0)
+
+  pub accepted-used : (k : ℕ) → k < nodeCount t → used (bookOf t) k ≡ true
+  accepted-used k l = not-false _ (first-none _ _ .0 (none-at (row13 t ∷ []) (parts .1) 0) k l)

@@ -1,4 +1,4 @@
--- The bench cases have the answer sets of their table, and are well formed: both computed from the definitions.
+-- The bench cases have the answer sets of their table, are well formed, and use every node; the others use the nodes that their table says. All computed from the definitions.
 use mathlib.Core.Path.{_≡_, refl}
 use mathlib.Core.Logic.{⊎-elim}
 use mathlib.Core.Bool.{Bool, true, _&&_}
@@ -6,12 +6,22 @@ use mathlib.Core.List.{List, [], _∷_, map, List·Memᴰ, List·Memᴰ·cases-c
 use lib.ListN.{length}
 use Rattle.logic.proofs.Bools.{&&-split}
 use Rattle.wire.specs.Wire.{allBelow}
+use Rattle.wire.specs.Sequence.{upTo}
 use Rattle.theory.specs.Book.{allFit, pairsFit, WellFormed}
-use Rattle.theory.specs.BenchCases.{BenchCase, benchCases, setsOf}
+use Rattle.theory.specs.BenchCases.{BenchCase, benchCases, setsOf, usesOf, useCases}
 
 -- The one claim over the one table.
 pub benchCases-sets : map (λ c. setsOf (c .theory)) benchCases ≡ map (λ c. c .sets) benchCases
 benchCases-sets = refl
+
+-- The bench cases use every node, and the others those of their table.
+pub benchCases-used : map (λ c. usesOf (c .theory)) benchCases ≡ map (λ c. map (λ n. true) (c .theory .nodes)) benchCases
+unfolding upTo
+benchCases-used = refl
+
+pub useCases-used : map (λ c. usesOf (c .theory)) useCases ≡ map (λ c. c .uses) useCases
+unfolding upTo
+useCases-used = refl
 
 -- Where two functions give equal lists, they are equal at each element.
 map-at : {S T : Type 0} (f g : S → T) (l : List S) → map f l ≡ map g l → (s : S) → List·Memᴰ s l → f s ≡ g s

@@ -2,6 +2,7 @@ pub mod Books
 pub mod PairLaws
 pub mod BenchCases
 pub mod Images
+pub mod Used
 pub mod Rows
 pub mod Accepted
 pub mod NodeValues

@@ -8,14 +8,18 @@ use Rattle.refusal.specs.Table.{numbered}
 use Rattle.refusal.specs.First.{first, FirstAt}
 use Rattle.refusal.proofs.First.{first-is}
 use Rattle.theory.specs.Image.{atomCount, nodeCount, nodeSection, fieldWrong, firstWrong, breaks}
-use Rattle.theory.specs.Rows.{row6, headerRows, theoryRows}
+use Rattle.theory.specs.Rows.{row6, headerRows, formRows, theoryRows}
 
 pub numbered-headerRows : (t : List ℕ) → numbered (headerRows t) ≡ true
 unfolding headerRows
 numbered-headerRows t = refl
 
+pub numbered-formRows : (t : List ℕ) → numbered (formRows t) ≡ true
+unfolding formRows headerRows
+numbered-formRows t = refl
+
 pub numbered-theoryRows : (t : List ℕ) → numbered (theoryRows t) ≡ true
-unfolding theoryRows headerRows
+unfolding theoryRows formRows headerRows
 numbered-theoryRows t = refl
 
 -- The place of row 6, divided by 8, is the first node that breaks its row, and its remainder is the first of that node's fields that is wrong.

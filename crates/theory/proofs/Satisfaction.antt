@@ -24,7 +24,7 @@ use Rattle.theory.specs.Book.{formulaAt, nodeFormulas, pairFormula, book
 use Rattle.theory.specs.Image.{nodeCount, rootCount, pairCount, nodeSection, rootSection, pairSection, nodeIn, rootIn, pairIn, bookOf}
 use Rattle.theory.specs.NodeValues.{nodeValues}
 use Rattle.theory.proofs.Books.{length-formulas}
-use Rattle.theory.proofs.Accepted.{Accepted}
+use Rattle.theory.proofs.Accepted.{Formed}
 
 -- The byte 2 is that of the value that is true here.
 eqb-number : (v : Value) → eqb (number v) 2 ≡ trueHere v
@@ -79,7 +79,7 @@ abbrev pub untruePair : (t : List ℕ) → Reading → ℕ
 untruePair t I = first (λ i. not (trueHere (value I (pairFormula (pairIn (pairSection t) i))))) (pairCount t)
 
 -- A scan of the roots' bytes says whether a reading satisfies what the roots of an accepted image assert,
-roots-scanned : (t old : List ℕ) (I : Reading) → Accepted t
+roots-scanned : (t old : List ℕ) (I : Reading) → Formed t
     → eqb (untrueRoot t old I) (rootCount t) ≡ satisfies I (map (formulaAt (nodeFormulas (bookOf t))) (bookOf t .roots))
 unfolding bookOf
 roots-scanned t old I a =
@@ -99,7 +99,7 @@ pairs-scanned t I =
     (satisfies-first I (λ i. pairFormula (pairIn (pairSection t) i)) _ (pairCount t) (λ i l. refl))
 
 -- and both, whether it satisfies the book.
-pub satisfies-book : (t old : List ℕ) (I : Reading) → Accepted t
+pub satisfies-book : (t old : List ℕ) (I : Reading) → Formed t
     → (eqb (untrueRoot t old I) (rootCount t) && eqb (untruePair t I) (pairCount t)) ≡ satisfies I (bookFormulas (bookOf t))
 satisfies-book t old I a =
     ap₂ _&&_ (roots-scanned t old I a) (pairs-scanned t I)

@@ -1,10 +1,13 @@
--- The bench cases P1 to P9, and three with a pair: each book beside its answer sets.
-use mathlib.Core.Bool.{cond}
+-- The bench cases P1 to P9, and three with a pair: each book beside its answer sets. And books with nodes that are not used.
+use mathlib.Core.Bool.{Bool, true, false, cond}
 use mathlib.Core.List.{List, [], _∷_, map}
 use Prim.Native.Nat.{ℕ, suc}
+use lib.ListN.{length}
 use Rattle.logic.specs.Atoms.{Atoms}
 use Rattle.logic.specs.AnswerSet.{answerSets}
-use Rattle.theory.specs.Book.{Kind, falseKind, atomKind, notKind, orKind, impliesKind, Node, Book, bookFormulas}
+use Rattle.wire.specs.Sequence.{upTo}
+use Rattle.theory.specs.Book.{Kind, falseKind, atomKind, notKind, andKind, orKind, impliesKind, Node, Book, bookFormulas}
+use Rattle.theory.specs.Used.{used}
 
 -- The atoms of a set, ascending, the first of the list being atom k.
 abbrev pub atomsFrom : (k : ℕ) → Atoms → List ℕ
@@ -72,4 +75,32 @@ benchCases =
     case
     (paired (p ∷ q ∷ node notKind 0 0 ∷ node orKind 0 2 ∷ node notKind 1 0 ∷ node orKind 1 4 ∷ []) (3 ∷ 5 ∷ []))
     ([] ∷ (0 ∷ []) ∷ (1 ∷ []) ∷ []) ∷
+    []
+
+-- Of each node of a book, whether it is used.
+abbrev pub usesOf : Book → List Bool
+usesOf b = upTo (used b) (length (b .nodes))
+
+-- A book, and which of its nodes are to be used.
+pub record UseCase : Type 0 where
+  pub theory : Book
+  pub uses : List Bool
+
+abbrev useCase : List Node → List ℕ → List Bool → UseCase
+useCase ns rs u = record { theory = book 2 ns rs; uses = u }
+
+abbrev pub useCases : List UseCase
+useCases =
+    -- the first is not: an atom's left, 0, is no use of node 0
+    useCase (p ∷ p ∷ []) (1 ∷ []) (false ∷ true ∷ []) ∷
+    -- nor is the right of not, which is 0
+    useCase (p ∷ q ∷ node notKind 1 0 ∷ []) (2 ∷ []) (false ∷ true ∷ true ∷ []) ∷
+    -- one in the middle is not, and what it alone uses is
+    useCase (p ∷ node notKind 0 0 ∷ q ∷ []) (2 ∷ []) (true ∷ false ∷ true ∷ []) ∷
+    -- the last is not
+    useCase (p ∷ q ∷ node andKind 0 1 ∷ []) (0 ∷ []) (true ∷ true ∷ false ∷ []) ∷
+    -- none is
+    useCase (p ∷ q ∷ []) [] (false ∷ false ∷ []) ∷
+    -- each is: as a left, as a right, as a root
+    useCase (p ∷ q ∷ node impliesKind 0 1 ∷ []) (2 ∷ []) (true ∷ true ∷ true ∷ []) ∷
     []

@@ -1,4 +1,4 @@
--- Rows 1, 2, 4 to 7 and 15 of the refusal table: what a theory image is refused for.
+-- Rows 1, 2, 4 to 7, 13 and 15 of the refusal table: what a theory image is refused for.
 use mathlib.Core.Bool.{not, _||_}
 use mathlib.Core.List.{List, [], _∷_, _++_}
 use Prim.Native.Nat.{ℕ}
@@ -9,7 +9,8 @@ use Rattle.refusal.specs.First.{firstPlaced, firstSuch}
 use Rattle.refusal.specs.Limits.{mostAtoms, mostNodes, mostRoots, mostPairs}
 use Rattle.wire.specs.Wire.{u32At}
 use Rattle.theory.specs.Book.{pairFits}
-use Rattle.theory.specs.Image.{atomCount, nodeCount, rootCount, pairCount, rootsStart, imageLength, nodeSection, rootSection, pairSection, wrongPlace, breaks, rootIn, pairIn}
+use Rattle.theory.specs.Image.{atomCount, nodeCount, rootCount, pairCount, rootsStart, imageLength, nodeSection, rootSection, pairSection, wrongPlace, breaks, rootIn, pairIn, bookOf}
+use Rattle.theory.specs.Used.{used}
 
 -- Row 1: the theory is shorter than 16 bytes.
 abbrev pub row1 : List ℕ → Row
@@ -47,10 +48,18 @@ row7 t = firstSuch 7 (λ i. not (ltb (rootIn (rootSection t) i) (nodeCount t))) 
 abbrev pub row15 : List ℕ → Row
 row15 t = firstSuch 15 (λ i. not (pairFits (atomCount t) (pairIn (pairSection t) i))) (pairCount t)
 
+-- Row 13: a node is not used; its place is the first such node.
+abbrev pub row13 : List ℕ → Row
+row13 t = firstSuch 13 (λ k. not (used (bookOf t) k)) (nodeCount t)
+
 -- The rows on the header.
 unfoldable pub headerRows : List ℕ → List Row
 headerRows t = row1 t ∷ row2 t ∷ row4 t ∷ row5 t ∷ []
 
+-- The rows that leave a well-formed book.
+unfoldable pub formRows : List ℕ → List Row
+formRows t = headerRows t ++ row6 t ∷ row7 t ∷ row15 t ∷ []
+
 -- The rows of a theory image, in the order tested.
 unfoldable pub theoryRows : List ℕ → List Row
-theoryRows t = headerRows t ++ row6 t ∷ row7 t ∷ row15 t ∷ []
+theoryRows t = formRows t ++ row13 t ∷ []

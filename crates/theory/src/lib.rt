@@ -12,10 +12,13 @@ ghost use Rattle.refusal.specs.First.{first};
 ghost use Rattle.refusal.specs.Limits.{mostAtoms, mostNodes, mostRoots, mostPairs};
 ghost use Rattle.logic.specs.Value.{number, trueHere};
 ghost use Rattle.logic.specs.Formula.{readingOf, valueOf, value, satisfies};
-ghost use Rattle.wire.specs.Wire.{u32At, over};
+ghost use Rattle.wire.specs.Wire.{u32At, allBelow, over};
+ghost use Rattle.wire.specs.Sequence.{upTo};
 ghost use Rattle.theory.specs.Book.{leftLimit, rightLimit, fits, pairFits, pairFormula, bookFormulas};
 ghost use Rattle.theory.specs.Image.{atomCount, nodeCount, rootCount, pairCount, rootsStart, pairsStart, kindOf, nodeIn, firstWrong, breaks, rootIn, pairIn, bookOf};
-ghost use Rattle.theory.specs.Rows.{headerRows, theoryRows};
+ghost use Rattle.theory.specs.Used.{operands, allOperands, used};
+ghost use Rattle.theory.specs.Marks.{marked};
+ghost use Rattle.theory.specs.Rows.{headerRows, formRows, theoryRows};
 ghost use Rattle.theory.specs.NodeValues.{valueFrom, valuesTo, nodeValues};
 
 // A of the header.
@@ -205,9 +208,9 @@ fn first_bad_pair(pairs: &[u8], atoms: usize, count: usize) -> usize
     i
 }
 
-// All rows: the header, then the nodes, then the roots, then the pairs.
-pub fn check(theory: &[u8]) -> Answer
-    ensures { λ r. ⌜ r ≡ answer (theoryRows (now (theory .entry))) 1 ⌝ }
+// The rows that leave a well-formed book: the header, then the nodes, then the roots, then the pairs.
+fn form(theory: &[u8]) -> Answer
+    ensures { λ r. ⌜ r ≡ answer (formRows (now (theory .entry))) 0 ⌝ }
 {
     let answer = header(theory);
     if answer.number != 0 {
@@ -231,6 +234,92 @@ pub fn check(theory: &[u8]) -> Answer
     let pair = first_bad_pair(&theory[pairs_start(theory)..], atoms(theory), pair_count);
     if pair < pair_count {
         return refusal::refuse(15, pair);
+    }
+    refusal::accept(0)
+}
+
+// Marks the operands of node k.
+fn mark_operands(nodes: &[u8], k: usize, marks: &mut [u8])
+    requires { ⌜ (k * 6 + 6 ≤ length (now nodes)) × (k ≤ length (now marks)) ⌝ }
+    requires { ⌜ allBelow k (operands (nodeIn (now nodes) k)) ≡ true ⌝ }
+    ensures { λ _. ⌜ now (marks .exit) ≡ marked (operands (nodeIn (now (nodes .entry)) k)) (now (marks .entry)) ⌝ }
+{
+    let i = k * 6;
+    let kind = nodes[i];
+    if kind < 3 {
+        return;
+    }
+    marks[wire::u16_at(nodes, i + 2)] = 1;
+    if kind == 3 {
+        return;
+    }
+    marks[wire::u16_at(nodes, i + 4)] = 1;
+}
+
+// Marks the operands of each of the first `count` nodes.
+fn mark_nodes(nodes: &[u8], count: usize, marks: &mut [u8])
+    requires { ⌜ (count * 6 ≤ length (now nodes)) × (count ≤ length (now marks)) ⌝ }
+    requires { ⌜ ((k : ℕ) → k < count → allBelow k (operands (nodeIn (now nodes) k)) ≡ true) ⌝ }
+    ensures { λ _. ⌜ now (marks .exit) ≡ marked (allOperands (upTo (nodeIn (now (nodes .entry))) count)) (now (marks .entry)) ⌝ }
+{
+    let mut k = 0;
+    while k < count {
+        mark_operands(nodes, k, marks);
+        k += 1;
+    }
+}
+
+// Marks each of the first `count` roots.
+fn mark_roots(roots: &[u8], count: usize, marks: &mut [u8])
+    requires { ⌜ count * 2 ≤ length (now roots) ⌝ }
+    requires { ⌜ ((i : ℕ) → i < count → rootIn (now roots) i < length (now marks)) ⌝ }
+    ensures { λ _. ⌜ now (marks .exit) ≡ marked (upTo (rootIn (now (roots .entry))) count) (now (marks .entry)) ⌝ }
+{
+    let mut i = 0;
+    while i < count {
+        marks[wire::u16_at(roots, i * 2)] = 1;
+        i += 1;
+    }
+}
+
+// The first number that is not marked, and the count where each is.
+fn first_unmarked(marks: &[u8], count: usize) -> usize
+    requires { ⌜ count ≤ length (now marks) ⌝ }
+    ensures { λ r. ⌜ r ≡ first (λ k. eqb (getD (now (marks .entry)) k 0) 0) count ⌝ }
+{
+    let mut k = 0;
+    while k < count {
+        if marks[k] == 0 {
+            return k;
+        }
+        k += 1;
+    }
+    k
+}
+
+// The first node of a well-formed book that is not used, and the number of nodes where each is.
+fn first_unused(theory: &[u8]) -> usize
+    requires { ⌜ none (formRows (now theory)) ≡ true ⌝ }
+    ensures { λ r. ⌜ r ≡ first (λ k. not (used (bookOf (now (theory .entry))) k)) (nodeCount (now (theory .entry))) ⌝ }
+{
+    let count = nodes(theory);
+    let mut marks = [0u8; refusal::MOST_NODES];
+    mark_nodes(&theory[16..], count, &mut marks);
+    mark_roots(&theory[roots_start(theory)..], roots(theory), &mut marks);
+    first_unmarked(&marks, count)
+}
+
+// All rows: those of the form, then whether each node is used.
+pub fn check(theory: &[u8]) -> Answer
+    ensures { λ r. ⌜ r ≡ answer (theoryRows (now (theory .entry))) 1 ⌝ }
+{
+    let answer = form(theory);
+    if answer.number != 0 {
+        return answer;
+    }
+    let unused = first_unused(theory);
+    if unused < nodes(theory) {
+        return refusal::refuse(13, unused);
     }
     refusal::accept(1)
 }

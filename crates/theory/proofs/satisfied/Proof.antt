@@ -10,7 +10,7 @@ use borrow.Author.Tests.{eq-eqb, ne-eqb}
 use Rattle.logic.specs.Formula.{Reading, readingOf}
 use Rattle.theory.specs.Image.{rootCount, rootSection, pairSection}
 use Rattle.wire.proofs.Laws.{part-from}
-use Rattle.theory.proofs.Accepted.{Accepted, accepted}
+use Rattle.theory.proofs.Accepted.{Formed, accepted}
 use Rattle.theory.proofs.Satisfaction.{untrueRoot, untrueRoot-le, untruePair, satisfies-book}
 use Rattle.theory.proofs.satisfied.Statement.{statement}
 use Rattle.theory.proofs.satisfied.Tie as tie
@@ -25,7 +25,7 @@ image p = now (start p .args .theory)
 abbrev seen : tie.After-roots → Reading
 seen p = readingOf (now (start p .args .reading))
 
-is-accepted : (p : tie.After-roots) → Accepted (image p)
+is-accepted : (p : tie.After-roots) → Formed (image p)
 is-accepted p = accepted (image p) (start p .pre .0)
 
 section-is : (p : tie.After-roots) → drop (p .before .roots-start .result) (image p) ≡ rootSection (image p)

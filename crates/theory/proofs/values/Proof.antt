@@ -5,12 +5,12 @@ use denote.Ref.{now}
 use borrow.Author.Needs.{needs}
 use Rattle.theory.specs.Image.{atomCount, nodeSection}
 use Rattle.wire.proofs.Laws.{part-from}
-use Rattle.theory.proofs.Accepted.{Accepted, accepted, kept-fits}
+use Rattle.theory.proofs.Accepted.{Formed, accepted, kept-fits}
 use Rattle.theory.proofs.NodeValues.{nodeValues-bookOf}
 use Rattle.theory.proofs.values.Statement.{statement}
 use Rattle.theory.proofs.values.Tie as tie
 
-abbrev is-accepted : (c : tie.Start) → Accepted (now (c .args .theory))
+abbrev is-accepted : (c : tie.Start) → Formed (now (c .args .theory))
 is-accepted c = accepted (now (c .args .theory)) (c .pre .0)
 
 nodes-requires : tie.Need-nodes-requires
