@@ -313,9 +313,9 @@ fn first_unused(theory: &[u8]) -> usize
 pub fn check(theory: &[u8]) -> Answer
     ensures { λ r. ⌜ r ≡ answer (theoryRows (now (theory .entry))) 1 ⌝ }
 {
-    let answer = form(theory);
-    if answer.number != 0 {
-        return answer;
+    let formed = form(theory);
+    if formed.number != 0 {
+        return formed;
     }
     let unused = first_unused(theory);
     if unused < nodes(theory) {
