@@ -89,14 +89,7 @@ impl<'c> Comparer<'c> {
         }
         let [ours, theirs] = [&self.buffers[0][..whole], &self.buffers[1][..whole]];
         if ours != theirs {
-            let at = ours.iter().zip(theirs).position(|(our, their)| our != their).expect("a byte that differs");
-            return Err(report(format!(
-                "byte {} of the buffer differs: {:02x} and {:02x}, before the call {:02x}",
-                at as i64 - GUARD as i64,
-                ours[at],
-                theirs[at],
-                pattern[at]
-            )));
+            return Err(report(difference(ours, theirs, pattern)));
         }
         if let Some(fault) = fault(call, first) {
             return Err(report(fault.to_string()));
@@ -130,6 +123,18 @@ impl<'c> Comparer<'c> {
         }
         Ok(answer)
     }
+}
+
+/// The first byte in which two buffers differ that were the same before.
+fn difference(ours: &[u8], theirs: &[u8], before: &[u8]) -> String {
+    let at = ours.iter().zip(theirs).position(|(our, their)| our != their).expect("a byte that differs");
+    format!(
+        "byte {} of the buffer differs: {:02x} and {:02x}, before the call {:02x}",
+        at as i64 - GUARD as i64,
+        ours[at],
+        theirs[at],
+        before[at]
+    )
 }
 
 /// What is wrong with an answer of `call`, whatever its arguments were.
