@@ -64,12 +64,12 @@ impl Call {
     /// The rows that the call has, in the order in which they are tested.
     pub fn rows(self) -> &'static [u32] {
         match self {
-            Call::CheckTheory => &[1, 2, 4, 5, 6, 7, 15],
-            Call::EvaluateTheory => &[1, 2, 4, 5, 6, 7, 15, 9, 10],
-            Call::Translate => &[1, 2, 4, 5, 6, 7, 15, 8],
-            Call::Extend => &[1, 2, 4, 5, 6, 7, 15, 9, 10, 8],
-            Call::TestTheory => &[1, 2, 4, 5, 6, 7, 15, 9, 10, 11],
-            Call::ListSets => &[1, 2, 4, 5, 6, 7, 15, 11, 8],
+            Call::CheckTheory => &[1, 2, 4, 5, 6, 7, 15, 13],
+            Call::EvaluateTheory => &[1, 2, 4, 5, 6, 7, 15, 13, 9, 10],
+            Call::Translate => &[1, 2, 4, 5, 6, 7, 15, 13, 8],
+            Call::Extend => &[1, 2, 4, 5, 6, 7, 15, 13, 9, 10, 8],
+            Call::TestTheory => &[1, 2, 4, 5, 6, 7, 15, 13, 9, 10, 11],
+            Call::ListSets => &[1, 2, 4, 5, 6, 7, 15, 13, 11, 8],
             Call::CheckProgram => &[21, 22, 23, 24, 25, 26],
             Call::EvaluateProgram => &[21, 22, 23, 24, 25, 26, 9, 10],
             Call::TestProgram => &[21, 22, 23, 24, 25, 26, 9, 10, 11],

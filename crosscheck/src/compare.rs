@@ -21,6 +21,8 @@ const GUARD: usize = 64;
 /// The largest buffer that is ever lent.
 const MOST_ROOM: usize = 70_000;
 const SHIFTS: usize = 251;
+/// All rows of all calls are below.
+const NUMBERS: usize = 27;
 /// Buffers up to this size are printed whole.
 const SHOWN: usize = 256;
 
@@ -29,6 +31,7 @@ const SHOWN: usize = 256;
 pub struct Comparer<'c> {
     sides: [&'c Calls; 2],
     counts: [u64; 9],
+    numbers: [u64; NUMBERS],
     pattern: Vec<u8>,
     shift: usize,
     buffers: [Vec<u8>; 2],
@@ -43,6 +46,7 @@ impl<'c> Comparer<'c> {
         Comparer {
             sides: [first, second],
             counts: [0; 9],
+            numbers: [0; NUMBERS],
             pattern,
             shift: 0,
             buffers: [vec![0; whole], vec![0; whole]],
@@ -53,6 +57,11 @@ impl<'c> Comparer<'c> {
     /// How often each call was compared.
     pub fn counts(&self) -> impl Iterator<Item = (Call, u64)> + '_ {
         Call::ALL.into_iter().zip(self.counts)
+    }
+
+    /// How often each number was given that was given at all.
+    pub fn numbers(&self) -> impl Iterator<Item = (usize, u64)> + '_ {
+        self.numbers.into_iter().enumerate().filter(|&(_, count)| count > 0)
     }
 
     /// What the last call wrote.
@@ -80,14 +89,7 @@ impl<'c> Comparer<'c> {
         }
         let [ours, theirs] = [&self.buffers[0][..whole], &self.buffers[1][..whole]];
         if ours != theirs {
-            let at = ours.iter().zip(theirs).position(|(our, their)| our != their).expect("a byte that differs");
-            return Err(report(format!(
-                "byte {} of the buffer differs: {:02x} and {:02x}, before the call {:02x}",
-                at as i64 - GUARD as i64,
-                ours[at],
-                theirs[at],
-                pattern[at]
-            )));
+            return Err(report(difference(ours, theirs, pattern)));
         }
         if let Some(fault) = fault(call, first) {
             return Err(report(fault.to_string()));
@@ -98,6 +100,7 @@ impl<'c> Comparer<'c> {
             return Err(report("bytes that must stay were changed".to_string()));
         }
         self.written = if refused { 0 } else { written.min(room) };
+        self.numbers[first.number as usize] += 1;
         Ok(first)
     }
 
@@ -120,6 +123,18 @@ impl<'c> Comparer<'c> {
         }
         Ok(answer)
     }
+}
+
+/// The first byte in which two buffers differ that were the same before.
+fn difference(ours: &[u8], theirs: &[u8], before: &[u8]) -> String {
+    let at = ours.iter().zip(theirs).position(|(our, their)| our != their).expect("a byte that differs");
+    format!(
+        "byte {} of the buffer differs: {:02x} and {:02x}, before the call {:02x}",
+        at as i64 - GUARD as i64,
+        ours[at],
+        theirs[at],
+        before[at]
+    )
 }
 
 /// What is wrong with an answer of `call`, whatever its arguments were.

@@ -3,7 +3,9 @@
 //! Where several rows are to be broken in one image, the rows that change its length come last, and row 1 or 21 after
 //! all others.
 
-use crate::lists::{get2, Pair};
+use crate::generate::growth::{Growth, Style, NO_LIMIT};
+use crate::lists::{get2, Book, Pair};
+use crate::node::Node;
 use crate::random::Random;
 
 /// Writes a 2-byte number at `at`.
@@ -66,6 +68,24 @@ fn stump(random: &mut Random, image: &mut Vec<u8>) {
 
 /// The rows of a theory image in the order in which damage must be done.
 pub const THEORY_ORDER: [u32; 7] = [15, 7, 6, 4, 2, 5, 1];
+
+/// Row 13, which is broken before there is an image: puts a node that nothing uses anywhere into a book in which every
+/// node is used. In some books that node is the only one that uses another, which is put in too.
+pub fn unused(random: &mut Random, book: &mut Book) -> usize {
+    let own = random.within(0, book.nodes.len());
+    let style = Style::any(random, book.atoms);
+    let mut before = Growth { nodes: book.nodes[..own].to_vec(), ..Growth::default() };
+    before.grow(random, &style, own + 1, NO_LIMIT);
+    book.insert(own, before.nodes[own]);
+    if random.chance(70) {
+        return own;
+    }
+    let user = random.within(own + 1, book.nodes.len());
+    let other = random.below(user);
+    let kinds = [Node::Not(own), Node::And(own, other), Node::Or(other, own), Node::Implies(own, own)];
+    book.insert(user, random.pick(&kinds));
+    user
+}
 
 /// Breaks one of these rows. The image is valid up to other damage, with at least one node and one root, and for row 15
 /// one pair.
@@ -230,4 +250,27 @@ pub fn reading_byte(random: &mut Random, good: &mut [u8], candidate: bool) -> us
         _ => 3,
     };
     at
+}
+
+#[cfg(test)]
+mod tests {
+    use super::*;
+    use crate::generate;
+
+    #[test]
+    fn the_node_that_is_not_used() {
+        let random = &mut Random::new(1);
+        let mut users = 0;
+        for nodes in (0..12).cycle().take(300) {
+            let mut book = generate::book(random, 2, nodes, 3, 1);
+            assert_eq!(book.unused(), None);
+            let own = unused(random, &mut book);
+            assert_eq!(book.unused(), Some(own));
+            // Once it is used, every node is.
+            book.roots.push(own);
+            assert_eq!(book.unused(), None);
+            users += book.nodes.len() - nodes - 1;
+        }
+        assert!((50..150).contains(&users), "{users}");
+    }
 }

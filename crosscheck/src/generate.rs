@@ -1,36 +1,67 @@
 //! Random books, programs and interpretations.
 
+pub mod growth;
+
 use crate::lists::{self, Book, Pair, Program, Rule};
 use crate::node::Node;
 use crate::random::Random;
+use growth::{Growth, Style, NO_LIMIT, ONLY_IMPLICATIONS};
 
-/// Moves the roots of a book to nodes that hold under `reading`, if there are any, and makes its pairs anew, so that
-/// they hold too.
+/// A random book of exactly these sizes in which every node is used. So where there are nodes there is at least one
+/// root; without nodes there are no roots, and under two atoms no pairs.
+pub fn book(random: &mut Random, atoms: usize, nodes: usize, roots: usize, pairs: usize) -> Book {
+    let style = Style::any(random, atoms);
+    grown(random, &style, Growth::default(), nodes, roots, pairs)
+}
+
+/// The book that grows to these sizes from a beginning.
+fn grown(random: &mut Random, style: &Style, mut from: Growth, nodes: usize, roots: usize, pairs: usize) -> Book {
+    let roots = if nodes == 0 { 0 } else { roots.max(1) };
+    // Where fewer nodes are loose than there are roots, some roots are operands too or stand twice.
+    let most = random.within(1, roots.max(1));
+    from.grow(random, style, nodes, most);
+    let book = from.book(random, style, roots);
+    Book { pairs: self::pairs(random, &vec![0; style.atoms], pairs), ..book }
+}
+
+/// A random book whose operands and roots are any nodes, so that most of these books have nodes that nothing uses.
+/// Without nodes there are no roots, and under two atoms no pairs.
+pub fn careless(random: &mut Random, atoms: usize, nodes: usize, roots: usize, pairs: usize) -> Book {
+    let style = Style::any(random, atoms);
+    let mut growth = Growth::default();
+    growth.grow(random, &style, nodes, NO_LIMIT);
+    let roots = if nodes == 0 { 0 } else { roots };
+    let roots = (0..roots).map(|_| growth::root(random, &style, nodes)).collect();
+    Book { pairs: self::pairs(random, &vec![0; atoms], pairs), ..Book::new(atoms, growth.nodes, roots) }
+}
+
+/// Changes a book so that its roots hold under `reading`, and makes its pairs anew, so that they hold too. A node that
+/// is no operand is changed itself where it does not hold, and still uses what it used; a root that is an operand too
+/// moves to a node that holds.
 pub fn satisfy(random: &mut Random, book: &mut Book, reading: &[u8]) {
     let (here, there) = lists::worlds(reading);
     let truths = book.truths(&here, &there);
+    for own in (0..book.nodes.len()).filter(|&own| !truths[own].0) {
+        if !book.is_operand(own) {
+            book.nodes[own] = mended(book.nodes[own], &truths);
+        }
+    }
+    let truths = book.truths(&here, &there);
     let holding: Vec<usize> = (0..truths.len()).filter(|&node| truths[node].0).collect();
-    if !holding.is_empty() {
-        book.roots.iter_mut().for_each(|root| *root = random.pick(&holding));
+    for root in book.roots.iter_mut().filter(|root| !truths[**root].0) {
+        *root = random.pick(&holding);
     }
     book.pairs = pairs(random, reading, book.pairs.len());
 }
 
-/// A random book of exactly these sizes. Without nodes there are no roots, and under two atoms no pairs.
-pub fn book(random: &mut Random, atoms: usize, nodes: usize, roots: usize, pairs: usize) -> Book {
-    let leaves = random.pick(&[10, 30, 60]);
-    let near = random.chance(50);
-    let mut book = Book { atoms, ..Book::default() };
-    for own in 0..nodes {
-        let node = if own == 0 || random.chance(leaves) { leaf(random, atoms) } else { inner(random, own, near) };
-        book.nodes.push(node);
+/// A node of the same operands that holds. Of two nodes, one always implies the other.
+fn mended(node: Node, truths: &[(bool, bool)]) -> Node {
+    match node {
+        Node::False | Node::True | Node::Atom(_) => Node::True,
+        Node::Not(x) => Node::Implies(x, x),
+        Node::And(x, y) | Node::Or(x, y) | Node::Implies(x, y) if truths[x] <= truths[y] => Node::Implies(x, y),
+        Node::And(x, y) | Node::Or(x, y) | Node::Implies(x, y) => Node::Implies(y, x),
     }
-    if nodes > 0 {
-        let low = if near { nodes.saturating_sub(4) } else { 0 };
-        book.roots = (0..roots).map(|_| random.within(low, nodes - 1)).collect();
-    }
-    book.pairs = self::pairs(random, &vec![0; atoms], pairs);
-    book
 }
 
 /// So many pairs that hold under `reading`: one atom of each is 0 there. Some pairs repeat. Where no atom is 0, or
@@ -53,45 +84,26 @@ fn pairs(random: &mut Random, reading: &[u8], count: usize) -> Vec<Pair> {
     pairs
 }
 
-fn leaf(random: &mut Random, atoms: usize) -> Node {
-    if atoms > 0 && !random.chance(12) {
-        Node::Atom(random.below(atoms))
-    } else if random.chance(50) {
-        Node::False
-    } else {
-        Node::True
-    }
-}
-
-fn inner(random: &mut Random, own: usize, near: bool) -> Node {
-    let mut operand = || if near && random.chance(70) { own - 1 - random.below(own.min(5)) } else { random.below(own) };
-    let (left, mut right) = (operand(), operand());
-    if random.chance(5) {
-        right = left;
-    }
-    match random.below(9) {
-        0 | 1 => Node::Not(left),
-        2 | 3 => Node::And(left, right),
-        4 | 5 => Node::Or(left, right),
-        _ => Node::Implies(left, right),
-    }
-}
-
 /// A book whose one answer set is `truths` atoms out of `atoms`: each of them is a root. Further nodes stand beside,
-/// and pairs that hold.
+/// under one more root, the first, which always holds, and pairs that hold.
 pub fn facts(random: &mut Random, atoms: usize, nodes: usize, truths: usize, pairs: usize) -> (Book, Vec<u8>) {
-    let mut book = book(random, atoms, nodes.max(truths), 0, 0);
     let mut set = vec![0; atoms];
     while set.iter().filter(|&&byte| byte == 2).count() < truths {
         set[random.below(atoms)] = 2;
     }
-    let chosen = (0..atoms).filter(|&atom| set[atom] == 2);
-    for (own, atom) in chosen.enumerate() {
-        book.nodes[own] = Node::Atom(atom);
-        book.roots.push(own);
+    let chosen = (0..atoms).filter(|&atom| set[atom] == 2).map(Node::Atom);
+    let mut growth = Growth { nodes: chosen.collect(), ..Growth::default() };
+    let mut roots: Vec<usize> = (0..truths).collect();
+    if nodes > truths {
+        let style = Style::any(random, atoms);
+        growth.grow(random, &style, nodes - 1, 1);
+        // The last of these nodes is the only loose one.
+        let always = growth.loose.last().map_or(Node::True, |&last| Node::Implies(last, last));
+        growth.push(always);
+        roots.insert(0, nodes - 1);
     }
-    book.pairs = self::pairs(random, &set, pairs);
-    (book, set)
+    let pairs = self::pairs(random, &set, pairs);
+    (Book { pairs, ..Book::new(atoms, growth.nodes, roots) }, set)
 }
 
 /// The book with the root `a or not a` for each of its atoms beside: every set that satisfied it is an answer set.
@@ -104,15 +116,15 @@ pub fn free(mut book: Book) -> Book {
     book
 }
 
-/// The book of `nodes` nodes with the longest program: one atom, then implications only.
+/// The book of these sizes, with at least one node and one root, that has the longest program: 6 (N - 1) + R + P rules.
+/// Of all kinds an implication has the most, six, if no operand is a constant; the first node can only be a leaf, which
+/// has none; a root or a pair has one at most. That every node must be used makes no program shorter: a chain in which
+/// each implication is an operand of the next needs a single root.
 pub fn longest(random: &mut Random, atoms: usize, nodes: usize, roots: usize, pairs: usize) -> Book {
-    let mut book = Book::new(atoms, vec![Node::Atom(0)], vec![]);
-    for own in 1..nodes {
-        book.nodes.push(Node::Implies(random.below(own), random.below(own)));
-    }
-    book.roots = (0..roots).map(|_| random.below(nodes)).collect();
-    book.pairs = self::pairs(random, &vec![0; atoms], pairs);
-    book
+    let style = Style { atoms, kinds: &ONLY_IMPLICATIONS, leaves: 0, near: false };
+    let mut first = Growth::default();
+    first.push(Node::Atom(0));
+    grown(random, &style, first, nodes, roots, pairs)
 }
 
 /// A random program of exactly these sizes.
@@ -202,13 +214,118 @@ mod tests {
         for _ in 0..20 {
             let reading = [&[0][..], &reading(random, 6)].concat();
             let mut satisfied = book(random, 7, 9, 3, 12);
-            satisfied.nodes[0] = Node::True;
             satisfy(random, &mut satisfied, &reading);
             let (here, there) = lists::worlds(&reading);
             assert_eq!((satisfied.pairs.len(), satisfied.satisfied(&here, &there)), (12, true));
             let (book, set) = facts(random, 6, 9, 3, 12);
             let sets: Vec<Vec<u8>> = book.answer_sets().iter().map(|&set| lists::reading(set, set, 6)).collect();
             assert_eq!((book.pairs.len(), sets), (12, vec![set]));
+        }
+    }
+
+    /// How many nodes, roots and pairs a book has in which every node is used.
+    fn sizes(book: &Book) -> (usize, usize, usize) {
+        assert_eq!(book.unused(), None, "{book:?}");
+        (book.nodes.len(), book.roots.len(), book.pairs.len())
+    }
+
+    #[test]
+    fn every_node_is_used_in_books_of_all_sizes() {
+        let random = &mut Random::new(5);
+        for (nodes, roots) in [(1, 1), (1, 4), (2, 1), (3, 3), (9, 1), (9, 20), (200, 2), (1024, 1), (1024, 256)] {
+            for _ in 0..5 {
+                assert_eq!(sizes(&book(random, 3, nodes, roots, 2)), (nodes, roots, 2));
+                assert_eq!(sizes(&longest(random, 3, nodes, roots, 2)), (nodes, roots, 2));
+                let mut satisfied = book(random, 9, nodes, roots, 0);
+                let reading = reading(random, 9);
+                satisfy(random, &mut satisfied, &reading);
+                let (here, there) = lists::worlds(&reading);
+                assert_eq!((sizes(&satisfied), satisfied.satisfied(&here, &there)), ((nodes, roots, 0), true));
+            }
+        }
+        // Nodes want a root, and a root wants a node.
+        assert_eq!(sizes(&book(random, 3, 4, 0, 0)), (4, 1, 0));
+        assert_eq!(sizes(&book(random, 3, 0, 4, 0)), (0, 0, 0));
+    }
+
+    #[test]
+    fn nodes_beside_facts_change_nothing() {
+        let random = &mut Random::new(6);
+        for (nodes, truths) in [(0, 0), (1, 0), (2, 0), (20, 0), (0, 3), (3, 3), (4, 3), (5, 3), (20, 3)] {
+            let (book, set) = facts(random, 4, nodes, truths, 0);
+            let always = usize::from(nodes > truths);
+            assert_eq!(sizes(&book), (nodes.max(truths), truths + always, 0));
+            let set = (0..4).filter(|&atom| set[atom] == 2).map(|atom| 1 << atom).sum();
+            assert_eq!(book.answer_sets(), [set]);
+            let free = free(book);
+            sizes(&free);
+            assert_eq!(free.answer_sets(), (0..16).filter(|other| other & set == set).collect::<Vec<_>>());
+        }
+    }
+
+    /// What is to be met among random books, however they are grown.
+    #[test]
+    fn books_are_varied() {
+        type Sign = fn(&Book) -> bool;
+        let signs: [(&str, Sign); 10] = [
+            ("a negation", |book| book.nodes.iter().any(|node| matches!(node, Node::Not(_)))),
+            ("a conjunction", |book| book.nodes.iter().any(|node| matches!(node, Node::And(..)))),
+            ("a disjunction", |book| book.nodes.iter().any(|node| matches!(node, Node::Or(..)))),
+            ("an implication", |book| book.nodes.iter().any(|node| matches!(node, Node::Implies(..)))),
+            ("a constant", |book| book.nodes.iter().any(|node| matches!(node, Node::False | Node::True))),
+            ("equal operands", |book| operands(book).any(|(_, left, right)| left == right)),
+            ("an operand far away", |book| operands(book).any(|(own, left, _)| own > left + 20)),
+            ("one node in two others", |book| {
+                operands(book)
+                    .any(|(own, left, _)| operands(book).any(|(other, _, right)| own != other && left == right))
+            }),
+            ("a root that is an operand", |book| book.roots.iter().any(|&root| book.is_operand(root))),
+            ("a root twice", |book| (1..book.roots.len()).any(|at| book.roots[..at].contains(&book.roots[at]))),
+        ];
+        let random = &mut Random::new(7);
+        let books: Vec<Book> = (0..200).map(|_| book(random, 5, 40, 4, 0)).collect();
+        for (name, sign) in signs {
+            let count = books.iter().filter(|book| sign(book)).count();
+            assert!(count >= 50, "{name}: {count} of 200");
+        }
+    }
+
+    /// The number, left and right of each node that has both.
+    fn operands(book: &Book) -> impl Iterator<Item = (usize, usize, usize)> + '_ {
+        book.nodes.iter().enumerate().filter_map(|(own, &node)| match node {
+            Node::And(left, right) | Node::Or(left, right) | Node::Implies(left, right) => Some((own, left, right)),
+            _ => None,
+        })
+    }
+
+    #[test]
+    fn most_careless_books_have_an_unused_node() {
+        let random = &mut Random::new(8);
+        let books: Vec<Book> = (0..200).map(|_| careless(random, 5, 12, 4, 0)).collect();
+        assert!(books.iter().all(|book| (book.nodes.len(), book.roots.len()) == (12, 4)));
+        let unused = books.iter().filter(|book| book.unused().is_some()).count();
+        assert!((150..200).contains(&unused), "{unused}");
+    }
+
+    #[test]
+    fn no_program_of_a_book_is_longer() {
+        let random = &mut Random::new(9);
+        // The rules of a node alone, with operands that are atoms: none for the first node, six at most for others.
+        let [p, q] = [Node::Atom(0), Node::Atom(1)];
+        let counts = [Node::Not(0), Node::And(0, 1), Node::Or(0, 1), Node::Implies(0, 1)]
+            .map(|node| Book::new(2, vec![p, q, node], vec![]).flat().rules.len());
+        assert_eq!(counts, [2, 3, 3, 6]);
+        assert_eq!(
+            [Node::False, Node::True, p].map(|leaf| Book::new(2, vec![leaf], vec![]).flat().rules.len()),
+            [0; 3]
+        );
+        for (nodes, roots, pairs, rules) in
+            [(1024, 256, 128, 6522), (1024, 256, 0, 6394), (1024, 1, 0, 6139), (1, 1, 0, 1)]
+        {
+            let longest = longest(random, 1024, nodes, roots, pairs);
+            assert_eq!((sizes(&longest), longest.flat().rules.len()), ((nodes, roots, pairs), rules));
+            assert_eq!(rules, 6 * (nodes - 1) + roots + pairs);
+            assert!(book(random, 1024, nodes, roots, pairs).flat().rules.len() <= rules);
         }
     }
 }

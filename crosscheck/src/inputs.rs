@@ -1,6 +1,7 @@
 //! What the benchmark times and the instruction counter counts.
 
 use crate::calls::{Answer, Call, Calls};
+use crate::generate::growth::{Growth, Style, MOSTLY_IMPLICATIONS};
 use crate::lists::{Book, Rule};
 use crate::node::Node;
 use crate::random::Random;
@@ -79,35 +80,25 @@ fn translation(name: &'static str, book: &Book) -> Input {
     Input::new(name, Call::Translate, book.image(), vec![], room)
 }
 
-/// The translation of a book of so many nodes, with the number of its rules.
+/// The translation of a book of so many nodes, and a quarter as many roots, with the number of its rules.
 pub fn mixed_translation(nodes: usize) -> (Input, usize) {
-    let (book, _) = mixed(nodes, 0, 0);
+    let (book, _) = mixed(nodes, nodes / 4, 0);
     (translation("", &book), book.flat().rules.len())
 }
 
-/// A book of `nodes` nodes, two thirds of them implications, and a reading that satisfies all its roots and pairs.
+/// A book of `nodes` nodes, all of them used, and about two thirds of the inner ones implications, with a reading that
+/// satisfies all its roots and pairs.
 fn mixed(nodes: usize, roots: usize, pairs: usize) -> (Book, Vec<u8>) {
     let mut random = Random::new(7);
-    let atoms = 1024;
-    let leaves = nodes / 8;
-    let mut book = Book { atoms, ..Book::default() };
-    for own in 0..nodes {
-        let node = if own < leaves {
-            Node::Atom(random.below(atoms))
-        } else {
-            let (x, y) = (random.below(own), random.below(own));
-            match random.below(9) {
-                0 => Node::Not(x),
-                1 => Node::And(x, y),
-                2 => Node::Or(x, y),
-                _ => Node::Implies(x, y),
-            }
-        };
-        book.nodes.push(node);
+    let style = Style { atoms: 1024, kinds: &MOSTLY_IMPLICATIONS, leaves: 0, near: false };
+    let mut growth = Growth::default();
+    for _ in 0..nodes / 8 {
+        growth.push(Node::Atom(random.below(style.atoms)));
     }
-    let reading: Vec<u8> = (0..atoms).map(|_| random.below(3) as u8).collect();
-    book.roots = vec![0; roots];
+    growth.grow(&mut random, &style, nodes, roots);
+    let mut book = growth.book(&mut random, &style, roots);
     book.pairs = vec![(0, 1); pairs];
+    let reading: Vec<u8> = (0..style.atoms).map(|_| random.below(3) as u8).collect();
     generate::satisfy(&mut random, &mut book, &reading);
     (book, reading)
 }
@@ -119,9 +110,11 @@ pub fn candidate(name: &'static str, nodes: usize, truths: usize) -> Input {
     Input::new(name, Call::TestTheory, book.image(), set, 0)
 }
 
-/// Twelve atoms, each of them true or not, beside further nodes that no root uses: every set is an answer set.
+/// Twelve atoms, each of them true or not, beside further nodes under a root that always holds: every set is an answer
+/// set.
 fn listing() -> Input {
-    let book = generate::free(generate::book(&mut Random::new(13), 12, 28, 0, 0));
+    let (always, _) = generate::facts(&mut Random::new(13), 12, 28, 0, 0);
+    let book = generate::free(always);
     Input::new("12 atoms, 64 nodes", Call::ListSets, book.image(), vec![], 8192)
 }
 
@@ -139,6 +132,7 @@ fn flat_candidate() -> Input {
 #[cfg(test)]
 mod tests {
     use super::*;
+    use crate::lists::get2;
     use crate::reference;
 
     #[test]
@@ -152,6 +146,31 @@ mod tests {
             for (name, rules) in [("6,394 rules", 6394), ("6,522 rules", 6522)] {
                 assert!(!input.name.ends_with(name) || answer.result == rules, "{}", input.name);
             }
+        }
+        // Those that take long are accepted too.
+        for input in all().iter().filter(|input| !input.call.on_program()) {
+            assert_eq!(reference::check_theory(&input.image).number, 0, "{}", input.name);
+        }
+        assert_eq!(get2(&listing().image, 2), 64);
+    }
+
+    #[test]
+    fn small_ones_of_those_that_take_long() {
+        let small = candidate("", 40, 6);
+        assert_eq!(get2(&small.image, 2), 40);
+        assert_eq!(small.run(&reference::CALLS, &mut []).result, 1);
+    }
+
+    #[test]
+    fn mixed_books_of_all_sizes() {
+        for nodes in [64, 128, 256, 512, 1024] {
+            let (book, reading) = mixed(nodes, nodes / 4, 0);
+            let implications = book.nodes.iter().filter(|node| matches!(node, Node::Implies(..))).count();
+            assert_eq!((book.nodes.len(), book.roots.len(), book.unused()), (nodes, nodes / 4, None));
+            assert!((nodes * 11 / 20..nodes * 7 / 10).contains(&implications), "{implications} of {nodes}");
+            assert_eq!(reference::evaluate_theory(&book.image(), &reading).result, 1);
+            let (_, rules) = mixed_translation(nodes);
+            assert!((nodes * 9 / 2..nodes * 5).contains(&rules), "{rules} of {nodes}");
         }
     }
 }

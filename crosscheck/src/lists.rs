@@ -92,6 +92,28 @@ impl Book {
         bytes
     }
 
+    /// Whether a later node has this one as an operand.
+    pub fn is_operand(&self, own: usize) -> bool {
+        self.nodes[own + 1..].iter().any(|&node| match node {
+            Node::False | Node::True | Node::Atom(_) => false,
+            Node::Not(x) => x == own,
+            Node::And(x, y) | Node::Or(x, y) | Node::Implies(x, y) => x == own || y == own,
+        })
+    }
+
+    /// The first node that nothing uses: no root, and no operand of another node, be that one used or not.
+    pub fn unused(&self) -> Option<usize> {
+        (0..self.nodes.len()).find(|own| !self.roots.contains(own) && !self.is_operand(*own))
+    }
+
+    /// Puts a node before the node `own`, or at the end. The nodes from there on get the next number.
+    pub fn insert(&mut self, own: usize, node: Node) {
+        let moved = |number: usize| number + usize::from(number >= own);
+        self.nodes[own..].iter_mut().for_each(|later| *later = renumbered(*later, moved));
+        self.nodes.insert(own, node);
+        self.roots.iter_mut().for_each(|root| *root = moved(*root));
+    }
+
     /// For every node, whether it holds here and whether it holds there.
     pub fn truths(&self, here: &[bool], there: &[bool]) -> Vec<(bool, bool)> {
         let mut truths: Vec<(bool, bool)> = Vec::new();
@@ -157,13 +179,7 @@ impl Book {
     pub fn beside(&self, other: &Book) -> Book {
         assert_eq!(self.atoms, other.atoms);
         let by = self.nodes.len();
-        let moved = other.nodes.iter().map(|&node| match node {
-            Node::Not(x) => Node::Not(x + by),
-            Node::And(x, y) => Node::And(x + by, y + by),
-            Node::Or(x, y) => Node::Or(x + by, y + by),
-            Node::Implies(x, y) => Node::Implies(x + by, y + by),
-            leaf => leaf,
-        });
+        let moved = other.nodes.iter().map(|&node| renumbered(node, |operand| operand + by));
         Book {
             atoms: self.atoms,
             nodes: self.nodes.iter().copied().chain(moved).collect(),
@@ -200,6 +216,17 @@ impl Book {
             rule.negatives.retain(|&term| term != FALSE);
         }
         Program { atoms: self.atoms, all, rules }
+    }
+}
+
+/// The node with other numbers for its operands.
+fn renumbered(node: Node, number: impl Fn(usize) -> usize) -> Node {
+    match node {
+        Node::Not(x) => Node::Not(number(x)),
+        Node::And(x, y) => Node::And(number(x), number(y)),
+        Node::Or(x, y) => Node::Or(number(x), number(y)),
+        Node::Implies(x, y) => Node::Implies(number(x), number(y)),
+        leaf => leaf,
     }
 }
 
@@ -327,6 +354,38 @@ pub fn answer_sets(atoms: usize, satisfied: impl Fn(&[bool], &[bool]) -> bool) -
 mod tests {
     use super::*;
     use crate::formula;
+
+    #[test]
+    fn nodes_that_nothing_uses() {
+        let book = |nodes: &[Node], roots: &[usize]| Book::new(2, nodes.to_vec(), roots.to_vec());
+        let [p, q] = [Node::Atom(0), Node::Atom(1)];
+        for (nodes, roots, unused) in [
+            (&[][..], &[][..], None),
+            (&[p], &[], Some(0)),
+            (&[p, q], &[1], Some(0)),
+            (&[p, q], &[0], Some(1)),
+            (&[p, q], &[1, 0], None),
+            (&[p, Node::Not(0)], &[1], None),
+            // The negation is unused, and what it negates is not.
+            (&[p, Node::Not(0)], &[], Some(1)),
+            (&[p, q, Node::And(0, 0)], &[2], Some(1)),
+            (&[p, q, Node::Or(1, 1)], &[2], Some(0)),
+            (&[p, q, Node::Implies(1, 0)], &[2], None),
+        ] {
+            assert_eq!(book(nodes, roots).unused(), unused, "{nodes:?} {roots:?}");
+        }
+    }
+
+    #[test]
+    fn a_node_put_in_moves_those_after_it() {
+        let good = formula::book("p q", "p -> ~q; q");
+        for own in 0..=good.nodes.len() {
+            let mut book = good.clone();
+            book.insert(own, Node::True);
+            assert_eq!((book.nodes[own], book.unused()), (Node::True, Some(own)));
+            assert_eq!(book.answer_sets(), good.answer_sets());
+        }
+    }
 
     #[test]
     fn books_beside_each_other_are_both_satisfied() {

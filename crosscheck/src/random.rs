@@ -36,4 +36,11 @@ impl Random {
     pub fn pick<T: Copy>(&mut self, from: &[T]) -> T {
         from[self.below(from.len())]
     }
+
+    /// Puts a list into any order.
+    pub fn shuffle<T>(&mut self, list: &mut [T]) {
+        for at in 1..list.len() {
+            list.swap(at, self.below(at + 1));
+        }
+    }
 }

@@ -9,6 +9,7 @@ mod labels;
 mod pairs;
 mod programs;
 mod refusals;
+mod unused;
 
 use crate::calls::{Answer, Call, Calls};
 use crate::compare::{hex, Checked, Comparer, Finding};
@@ -66,11 +67,12 @@ impl Effort {
 type Part = fn(&mut Suite, &Effort) -> Checked<()>;
 
 /// The parts by name. The solver is not among them, since it is not everywhere.
-pub const PARTS: [(&str, Part); 11] = [
+pub const PARTS: [(&str, Part); 12] = [
     ("worked examples", |suite, _| suite.worked_examples()),
-    ("limits", |suite, _| suite.limits()),
     ("broken nodes", |suite, _| suite.broken_nodes()),
     ("broken pairs", |suite, _| suite.broken_pairs()),
+    ("unused nodes", |suite, _| suite.unused_nodes()),
+    ("limits", |suite, _| suite.limits()),
     ("damaged images and arguments", |suite, effort| suite.damaged(effort.damages)),
     ("mutated images", |suite, effort| suite.mutated(effort.mutations)),
     ("every small book", |suite, effort| suite.every_small_book(effort.stride)),
@@ -84,11 +86,31 @@ pub const PARTS: [(&str, Part); 11] = [
 pub struct Suite<'c> {
     pub comparer: Comparer<'c>,
     random: Random,
+    /// The books that were given to every call.
+    pub books: Tally,
+}
+
+/// How many books were accepted, and how many refused for a node that nothing uses.
+#[derive(Clone, Copy, Default)]
+pub struct Tally {
+    pub accepted: usize,
+    pub unused: usize,
+}
+
+impl Tally {
+    /// What has come since.
+    pub fn since(self, before: Tally) -> Tally {
+        Tally { accepted: self.accepted - before.accepted, unused: self.unused - before.unused }
+    }
+
+    pub fn total(self) -> usize {
+        self.accepted + self.unused
+    }
 }
 
 impl<'c> Suite<'c> {
     pub fn new(first: &'c Calls, second: &'c Calls, seed: u64) -> Suite<'c> {
-        Suite { comparer: Comparer::new(first, second), random: Random::new(seed) }
+        Suite { comparer: Comparer::new(first, second), random: Random::new(seed), books: Tally::default() }
     }
 
     /// Runs a call without a buffer that must be accepted.

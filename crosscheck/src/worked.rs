@@ -104,6 +104,16 @@ mod tests {
     }
 
     #[test]
+    fn every_node_of_a_table_is_used() {
+        let examples = [cases(), examples(), pairs()].into_iter().flatten().map(|example| example.book);
+        let models = models().into_iter().map(|models| models.book);
+        let equivalences = equivalences().into_iter().flat_map(|both| [both.left, both.right]);
+        for book in examples.chain(models).chain(equivalences) {
+            assert_eq!(book.unused(), None, "{book:?}");
+        }
+    }
+
+    #[test]
     fn signs_between_theories() {
         let figure: Vec<bool> = equivalences()
             .iter()

@@ -1,7 +1,7 @@
 //! Compares the library with the reference on a great many inputs. Exits with 1 on the first difference.
 
 use crosscheck::compare::Checked;
-use crosscheck::suite::{Effort, Suite, PARTS};
+use crosscheck::suite::{Effort, Suite, Tally, PARTS};
 use crosscheck::{library_under_test, reference, solver};
 use std::process::ExitCode;
 use std::time::Instant;
@@ -71,13 +71,23 @@ fn total(suite: &Suite) -> u64 {
 }
 
 fn timed(suite: &mut Suite, name: &str, run: impl FnOnce(&mut Suite) -> Checked<()>) -> Checked<()> {
-    let (start, before) = (Instant::now(), total(suite));
+    let (start, before, books) = (Instant::now(), total(suite), suite.books);
     run(suite)?;
-    println!("{name}: {} calls, {:.1} s", total(suite) - before, start.elapsed().as_secs_f64());
+    let (calls, seconds) = (total(suite) - before, start.elapsed().as_secs_f64());
+    println!("{name}: {calls} calls, {seconds:.1} s{}", shown(suite.books.since(books)));
     Ok(())
+}
+
+fn shown(books: Tally) -> String {
+    match books.total() {
+        0 => String::new(),
+        _ => format!("; books: {} accepted, {} refused for an unused node", books.accepted, books.unused),
+    }
 }
 
 fn counts(suite: &Suite) {
     let counts: Vec<String> = suite.comparer.counts().map(|(call, count)| format!("{} {count}", call.name())).collect();
     println!("calls compared without a difference: {}; in all {}", counts.join(", "), total(suite));
+    let numbers: Vec<String> = suite.comparer.numbers().map(|(number, count)| format!("{number} {count}")).collect();
+    println!("numbers that were given, 0 where a call was accepted: {}", numbers.join(", "));
 }

@@ -7,6 +7,7 @@ use crate::reference;
 use crate::suite::{Effort, Suite, PARTS};
 
 mod pairs;
+mod unused;
 
 fn run(broken: Calls) -> Result<(), String> {
     let mut suite = Suite::new(&reference::CALLS, &broken, 1);
@@ -18,6 +19,37 @@ fn found(call: &str, broken: Calls) {
     let finding = run(Calls { name: "broken", ..broken }).expect_err("a difference");
     assert!(finding.starts_with(&format!("difference in {call}: ")), "{finding}");
     assert!(finding.contains("  reference: ") && finding.contains("  broken: "), "{finding}");
+}
+
+/// For each call that takes a theory, its name and the reference with nothing but that call broken.
+fn one_by_one(broken: &Calls) -> [(&'static str, Calls); 6] {
+    let good = reference::CALLS;
+    [
+        ("check_theory", Calls { check_theory: broken.check_theory, ..good }),
+        ("evaluate_theory", Calls { evaluate_theory: broken.evaluate_theory, ..good }),
+        ("translate", Calls { translate: broken.translate, ..good }),
+        ("extend", Calls { extend: broken.extend, ..good }),
+        ("test_theory", Calls { test_theory: broken.test_theory, ..good }),
+        ("list_sets", Calls { list_sets: broken.list_sets, ..good }),
+    ]
+}
+
+/// A way to break the answers of calls.
+trait Break {
+    fn answer(right: Answer) -> Answer;
+}
+
+/// The calls that take a theory, with their answers broken.
+fn broken_answers<B: Break>() -> Calls {
+    Calls {
+        check_theory: |theory| B::answer(reference::check_theory(theory)),
+        evaluate_theory: |theory, reading| B::answer(reference::evaluate_theory(theory, reading)),
+        translate: |theory, out| B::answer(reference::translate(theory, out)),
+        extend: |theory, reading, out| B::answer(reference::extend(theory, reading, out)),
+        test_theory: |theory, candidate| B::answer(reference::test_theory(theory, candidate)),
+        list_sets: |theory, out| B::answer(reference::list_sets(theory, out)),
+        ..reference::CALLS
+    }
 }
 
 #[test]
@@ -95,29 +127,20 @@ fn an_invented_count() {
     found("list_sets", Calls { list_sets, ..reference::CALLS });
 }
 
-/// The place of row 6 is the node alone, in one call after the other.
+/// The place of row 6 is the node alone.
 #[test]
 fn a_node_without_its_field() {
-    fn node(answer: Answer) -> Answer {
-        let place = if answer.number == 6 { answer.place / 8 } else { answer.place };
-        Answer { place, ..answer }
+    struct Alone;
+    impl Break for Alone {
+        fn answer(right: Answer) -> Answer {
+            let place = if right.number == 6 { right.place / 8 } else { right.place };
+            Answer { place, ..right }
+        }
     }
-    let good = reference::CALLS;
-    let broken = Calls {
-        check_theory: |theory| node(reference::check_theory(theory)),
-        evaluate_theory: |theory, reading| node(reference::evaluate_theory(theory, reading)),
-        translate: |theory, out| node(reference::translate(theory, out)),
-        extend: |theory, reading, out| node(reference::extend(theory, reading, out)),
-        test_theory: |theory, candidate| node(reference::test_theory(theory, candidate)),
-        list_sets: |theory, out| node(reference::list_sets(theory, out)),
-        ..good
-    };
-    found("check_theory", Calls { check_theory: broken.check_theory, ..good });
-    found("evaluate_theory", Calls { evaluate_theory: broken.evaluate_theory, ..good });
-    found("translate", Calls { translate: broken.translate, ..good });
-    found("extend", Calls { extend: broken.extend, ..good });
-    found("test_theory", Calls { test_theory: broken.test_theory, ..good });
-    found("list_sets", Calls { list_sets: broken.list_sets, ..good });
+    let broken = broken_answers::<Alone>();
+    for (call, one) in one_by_one(&broken) {
+        found(call, one);
+    }
     // Both sides alike.
     assert!(Suite::new(&broken, &broken, 1).broken_nodes().is_err());
 }
@@ -255,6 +278,6 @@ fn a_number_that_is_no_row_of_the_call() {
     let mut passed = |call: Call| -> Vec<u8> {
         (0..=255).filter(|&number| comparer.call(call, &[number], &[], 0).is_ok()).collect()
     };
-    assert_eq!(passed(Call::Translate), [0, 1, 2, 4, 5, 6, 7, 8, 15]);
-    assert_eq!(passed(Call::Extend), [0, 1, 2, 4, 5, 6, 7, 8, 9, 10, 15]);
+    assert_eq!(passed(Call::Translate), [0, 1, 2, 4, 5, 6, 7, 8, 13, 15]);
+    assert_eq!(passed(Call::Extend), [0, 1, 2, 4, 5, 6, 7, 8, 9, 10, 13, 15]);
 }

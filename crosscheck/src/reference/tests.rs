@@ -6,6 +6,7 @@ use crate::lists::{Book, Program, Rule};
 use crate::{formula, worked};
 
 mod pairs;
+mod unused;
 
 fn accepted(result: usize) -> Answer {
     Answer { number: 0, place: 0, result }
@@ -120,9 +121,10 @@ fn p6_bytes() {
 fn constants_drop_literals_or_whole_rules() {
     // Both sides of an implication constant: every pair of them, by the rules with the constants put in.
     let program = |left: Node, right: Node| {
-        let book = Book::new(0, vec![left, right, Node::Implies(0, 1)], vec![]);
-        let read = Program::read(&translated(&book.image()).1);
+        let book = Book::new(0, vec![left, right, Node::Implies(0, 1)], vec![2]);
+        let mut read = Program::read(&translated(&book.image()).1);
         assert_eq!(read, book.flat());
+        assert_eq!(read.rules.pop(), Some(Rule::new(&[0], &[], &[])));
         read.rules.iter().map(|rule| (rule.heads.clone(), rule.positives.clone())).collect::<Vec<_>>()
     };
     let (l, m) = (0, 1);
@@ -145,8 +147,12 @@ fn roots_are_facts_and_may_repeat() {
 
 #[test]
 fn limits_of_a_theory() {
-    let book =
-        |atoms: usize, nodes: usize, roots: usize| Book::new(atoms, vec![Node::True; nodes], vec![0; roots]).image();
+    let book = |atoms: usize, nodes: usize, roots: usize| {
+        let negations = (1..nodes).map(|own| Node::Not(own - 1));
+        let nodes: Vec<Node> = [Node::True].into_iter().take(nodes).chain(negations).collect();
+        let last = nodes.len().saturating_sub(1);
+        Book::new(atoms, nodes, vec![last; roots]).image()
+    };
     for (image, answer) in [
         (book(1024, 1, 1), accepted(1)),
         (book(1025, 1, 1), refused(2, 0)),
@@ -230,7 +236,7 @@ fn the_largest_programs_of_a_book() {
     const ALL: usize = 1024 + 2 * 1023;
     // A constant takes rules away and no label.
     for (first, rules) in [(Node::Atom(0), 6 * 1023), (Node::False, 3 + 4 * 1022), (Node::True, 2 + 4 * 1022)] {
-        for (roots, pairs) in [(0, 0), (256, 0), (0, 128), (256, 128)] {
+        for (roots, pairs) in [(1, 0), (256, 0), (1, 128), (256, 128)] {
             let image = implications(first, roots, pairs);
             let (count, program) = translated(&image);
             assert_eq!((count, half(&program, 2)), (rules + roots + pairs, ALL));

@@ -21,7 +21,7 @@ pub type Values = [Value; MOST_NODES];
 pub const NO_VALUES: Values = [Value::FALSE; MOST_NODES];
 
 impl<'a> Theory<'a> {
-    /// Rows 1, 2, 4 to 7 and 15.
+    /// Rows 1, 2, 4 to 7, 15 and 13.
     pub fn check(image: &'a [u8]) -> Outcome<Theory<'a>> {
         if image.len() < HEADER {
             return refuse(1, 0);
@@ -50,6 +50,9 @@ impl<'a> Theory<'a> {
         }
         if let Some(bad) = groups(pairs).map(pair).position(|[first, second]| first >= second || second >= atoms) {
             return refuse(15, bad);
+        }
+        if let Some(own) = unused(nodes, roots) {
+            return refuse(13, own);
         }
         Ok(Theory { atoms, nodes, roots, pairs })
     }
@@ -134,6 +137,25 @@ fn wrong_field(node: &[u8; 6], own: usize, atoms: usize) -> usize {
     } else {
         3
     }
+}
+
+/// The first node that is neither an operand nor a root, where all nodes and roots fit.
+fn unused(nodes: &[u8], roots: &[u8]) -> Option<usize> {
+    let mut used = [false; MOST_NODES];
+    for node in groups::<6>(nodes) {
+        match node[0] {
+            0..=2 => {}
+            3 => used[half(node, 2)] = true,
+            _ => {
+                used[half(node, 2)] = true;
+                used[half(node, 4)] = true;
+            }
+        }
+    }
+    for root in groups::<2>(roots) {
+        used[half(root, 0)] = true;
+    }
+    used[..nodes.len() / 6].iter().position(|&used| !used)
 }
 
 /// How many labels a node takes.

@@ -1,11 +1,11 @@
 //! Books, each under every theory call, and its translation under every program call.
 
-use super::{all_readings, demand, sets, truths, Suite};
+use super::{all_readings, demand, sets, truths, Suite, Tally};
 use crate::calls::Call;
-use crate::compare::{hex, Checked};
-use crate::generate;
+use crate::compare::{hex, Checked, Finding};
 use crate::lists::{self, Book, Pair};
 use crate::node::Node;
+use crate::{damage, generate};
 
 /// A book, its image and the image of its program, in which there are `all` atoms.
 struct Translated<'b> {
@@ -16,7 +16,8 @@ struct Translated<'b> {
 }
 
 impl Suite<'_> {
-    /// Every call on a book and its translation, the listing only if it is asked for or refused.
+    /// Every call on a book and its translation, the listing only if it is asked for or refused. If nothing uses some
+    /// node, every call refuses the book.
     pub(super) fn book(
         &mut self,
         book: &Book,
@@ -25,6 +26,11 @@ impl Suite<'_> {
         listed: bool,
     ) -> Checked<()> {
         let image = &book.image();
+        if let Some(own) = book.unused() {
+            self.books.unused += 1;
+            return self.refused(image, 13, own);
+        }
+        self.books.accepted += 1;
         let flat = book.flat();
         self.yes(Call::CheckTheory, image, &[])?;
         let (answer, program) = self.rooms(Call::Translate, image, &[], 16 + 10 * flat.rules.len())?;
@@ -116,18 +122,11 @@ impl Suite<'_> {
     /// Every book of up to three nodes over up to two atoms: with no root, every root, every two roots in both orders
     /// and repeated, and with all nodes as roots; without a pair, and with the one pair of two atoms once and twice.
     pub fn every_small_book(&mut self, stride: usize) -> Checked<()> {
-        let mut turn = 0;
         for atoms in 0..=2 {
             let readings = all_readings(atoms);
             let candidates: Vec<Vec<u8>> = (0..1 << atoms).map(|set| lists::reading(set, set, atoms)).collect();
-            for nodes in small_node_lists(atoms) {
-                for (roots, pairs) in small_root_and_pair_lists(nodes.len(), atoms) {
-                    turn += 1;
-                    if turn % stride == 0 {
-                        let book = Book { atoms, nodes: nodes.clone(), roots, pairs };
-                        self.book(&book, &readings, &candidates, true)?;
-                    }
-                }
+            for book in small_books(atoms).skip(stride - 1).step_by(stride) {
+                self.book(&book, &readings, &candidates, true)?;
             }
         }
         Ok(())
@@ -135,10 +134,11 @@ impl Suite<'_> {
 
     /// Random books of all sizes up to the limits.
     pub fn random_books(&mut self, small: usize, large: usize) -> Checked<()> {
+        let before = self.books;
         for turn in 0..small {
             let atoms = if turn % 500 == 0 { self.random.within(7, 9) } else { self.random.below(7) };
             let (nodes, roots, pairs) = (self.random.below(25), self.random.below(5), self.random.below(4));
-            let book = generate::book(&mut self.random, atoms, nodes, roots, pairs);
+            let book = self.any_book(atoms, nodes, roots, pairs);
             self.with_random_arguments(&book, 6, atoms, true)?;
         }
         for turn in 0..large {
@@ -152,18 +152,32 @@ impl Suite<'_> {
             let book = generate::book(&mut self.random, 12, 30, 3, 2);
             self.listing(&book, &book.image())?;
         }
-        Ok(())
+        mostly_accepted(self.books.since(before))
+    }
+
+    /// A random book of these sizes. In about one of ten a node is not used, and some of these are a node smaller.
+    pub(super) fn any_book(&mut self, atoms: usize, nodes: usize, roots: usize, pairs: usize) -> Book {
+        let random = &mut self.random;
+        match random.below(20) {
+            0 => generate::careless(random, atoms, nodes, roots, pairs),
+            1 if nodes > 1 => {
+                let mut book = generate::book(random, atoms, nodes - 2, roots, pairs);
+                damage::unused(random, &mut book);
+                book
+            }
+            _ => generate::book(random, atoms, nodes, roots, pairs),
+        }
     }
 
     /// A book of any size, or one with the longest program for its size.
     fn large_book(&mut self, longest: bool) -> Checked<()> {
         let atoms = self.size(1024);
         let (nodes, roots, pairs) = (self.size(1024), self.size(256), self.size(128));
-        let random = &mut self.random;
         let mut book = match longest && nodes > 0 && atoms > 0 {
-            true => generate::longest(random, atoms, nodes, roots, pairs),
-            false => generate::book(random, atoms, nodes, roots, pairs),
+            true => generate::longest(&mut self.random, atoms, nodes, roots, pairs),
+            false => self.any_book(atoms, nodes, roots, pairs),
         };
+        let random = &mut self.random;
         let reading = generate::reading(random, atoms);
         if random.chance(50) {
             generate::satisfy(random, &mut book, &reading);
@@ -200,6 +214,22 @@ impl Suite<'_> {
             (0..count).map(|_| generate::candidate(&mut self.random, book.atoms, truths)).collect();
         self.book(book, &readings, &candidates, listed)
     }
+}
+
+/// Books that are refused show little, so at least four of five must be accepted, and some not.
+fn mostly_accepted(books: Tally) -> Checked<()> {
+    match books.unused > 0 && 5 * books.accepted >= 4 * books.total() {
+        true => Ok(()),
+        false => Err(Finding(format!("of {} random books {} have an unused node\n", books.total(), books.unused))),
+    }
+}
+
+/// All the small books over so many atoms.
+fn small_books(atoms: usize) -> impl Iterator<Item = Book> {
+    small_node_lists(atoms).into_iter().flat_map(move |nodes| {
+        let lists = small_root_and_pair_lists(nodes.len(), atoms).into_iter();
+        lists.map(move |(roots, pairs)| Book { atoms, nodes: nodes.clone(), roots, pairs })
+    })
 }
 
 /// Every list of up to three nodes.
@@ -243,6 +273,7 @@ fn small_root_and_pair_lists(nodes: usize, atoms: usize) -> Vec<(Vec<usize>, Vec
 #[cfg(test)]
 mod tests {
     use super::*;
+    use crate::reference;
 
     #[test]
     fn small_books_are_all_there() {
@@ -251,5 +282,21 @@ mod tests {
         assert_eq!(small_root_lists(3).len(), 1 + 3 + 9 + 1);
         assert_eq!(small_root_lists(0).len(), 1);
         assert_eq!([0, 1, 2].map(|atoms| small_root_and_pair_lists(3, atoms).len()), [14, 14, 42]);
+    }
+
+    #[test]
+    fn small_books_of_both_sorts() {
+        let books: Vec<Book> = (0..=2).flat_map(small_books).collect();
+        let unused = books.iter().filter(|book| book.unused().is_some()).count();
+        assert_eq!((books.len() - unused, unused), (10_994, 21_843));
+    }
+
+    #[test]
+    fn any_book_has_the_sizes_asked_for_or_a_node_less() {
+        let mut suite = Suite::new(&reference::CALLS, &reference::CALLS, 1);
+        let books: Vec<Book> = (0..1000).map(|_| suite.any_book(4, 9, 3, 2)).collect();
+        assert!(books.iter().all(|book| (8..=9).contains(&book.nodes.len()) && book.roots.len() == 3));
+        let unused = books.iter().filter(|book| book.unused().is_some()).count();
+        assert!((60..140).contains(&unused), "{unused}");
     }
 }

@@ -52,7 +52,7 @@ impl Suite<'_> {
             }
         }
         for _ in 0..3 {
-            let (nodes, roots, pairs) = (self.random.within(1, 8), self.random.below(3), self.random.below(2));
+            let (nodes, roots, pairs) = (self.random.below(9), self.random.below(3), self.random.below(2));
             let further = generate::book(&mut self.random, book.atoms, nodes, roots, pairs);
             self.labels_beside(book, &further, all, &satisfied)?;
         }

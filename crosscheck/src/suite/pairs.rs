@@ -41,7 +41,7 @@ impl Suite<'_> {
     }
 
     /// One row broken after the other: each goes before those that were broken earlier.
-    fn damage_upon_damage(&mut self, good: &[u8]) -> Checked<()> {
+    pub(super) fn damage_upon_damage(&mut self, good: &[u8]) -> Checked<()> {
         let mut image = good.to_vec();
         for row in [15, 7, 6, 5, 4, 2] {
             let place = damage::theory(&mut self.random, &mut image, row);

@@ -32,14 +32,23 @@ impl Suite<'_> {
 
     fn theory_limits(&mut self) -> Checked<()> {
         let leaves = |count: usize| vec![Node::Atom(0); count];
+        // An atom, its negation, the negation of that and so on.
+        let negations = |count: usize| {
+            let nodes = (0..count).map(|own| own.checked_sub(1).map_or(Node::Atom(0), Node::Not));
+            nodes.collect::<Vec<Node>>()
+        };
         let theories = [
             (1024, leaves(1), vec![0], 0, 0),
             (1025, leaves(1), vec![0], 2, 0),
-            (1, leaves(1024), vec![1023], 0, 0),
-            (1, leaves(1025), vec![1024], 2, 0),
+            (1, negations(1024), vec![1023], 0, 0),
+            (1, negations(1025), vec![1024], 2, 0),
             (1, leaves(1), vec![0; 256], 0, 0),
             (1, leaves(1), vec![0; 257], 2, 0),
-            (1024, leaves(1024), vec![1023; 256], 0, 0),
+            (1, leaves(256), (0..256).collect(), 0, 0),
+            (1, leaves(257), (0..256).collect(), 13, 256),
+            (1, leaves(257), (1..257).collect(), 13, 0),
+            (1024, negations(1024), vec![1023; 256], 0, 0),
+            (1024, leaves(1024), vec![1023; 256], 13, 0),
             (0, vec![], vec![0], 7, 0),
             (0, leaves(1), vec![], 6, 2),
             (1, vec![Node::Atom(0), Node::Not(1)], vec![], 6, 10),
@@ -76,7 +85,7 @@ impl Suite<'_> {
     /// The most labels: none for the first node, which can only be a leaf, and two for each other one.
     fn label_limits(&mut self) -> Checked<()> {
         for first in [Node::False, Node::True, Node::Atom(0), Node::Atom(1023)] {
-            for (roots, pairs) in [(0, 0), (256, 0), (256, 128)] {
+            for (roots, pairs) in [(1, 0), (256, 0), (256, 128)] {
                 let mut book = generate::longest(&mut self.random, 1024, 1024, roots, pairs);
                 book.nodes[0] = first;
                 self.with_random_arguments(&book, 3, 4, true)?;
@@ -150,12 +159,17 @@ impl Suite<'_> {
         Ok(())
     }
 
-    /// Every call that takes a theory refuses this one by this row, with this place.
+    /// Every call that takes a theory refuses this one by this row, with this place, whatever else it is given: a good
+    /// interpretation, one too long, one of wrong bytes, a candidate of all atoms, no room and much room.
     pub(super) fn refused(&mut self, image: &[u8], number: u32, place: usize) -> Checked<()> {
-        let reading = vec![0; get2(image, 0)];
+        let atoms = get2(image, 0);
+        let readings = [vec![0; atoms], vec![0; atoms + 1], vec![3; atoms], vec![2; atoms]];
         for call in Call::ALL.into_iter().filter(|call| !call.on_program()) {
-            let room = self.random.pick(&[0, 4096]);
-            self.comparer.expect(call, image, &reading, room, number, Some(place))?;
+            let readings = if call.reads() { &readings[..] } else { &readings[..1] };
+            let rooms = if call.writes() { &[0, 4096][..] } else { &[0] };
+            for (reading, &room) in readings.iter().flat_map(|reading| rooms.iter().map(move |room| (reading, room))) {
+                self.comparer.expect(call, image, reading, room, number, Some(place))?;
+            }
         }
         Ok(())
     }
@@ -203,8 +217,9 @@ impl Suite<'_> {
                 generate::program(random, all / 2, all, rules).image()
             } else {
                 let (atoms, nodes, roots, pairs) = (random.below(6), random.below(9), random.below(4), random.below(4));
-                generate::book(random, atoms, nodes, roots, pairs).image()
+                self.any_book(atoms, nodes, roots, pairs).image()
             };
+            let random = &mut self.random;
             for _ in 0..random.within(1, 3) {
                 mutate(random, &mut image);
             }
@@ -271,8 +286,8 @@ impl Broken {
         (image, all, 0)
     }
 
-    /// A theory image, with its number of atoms and the room that the call needs.
-    fn theory(&mut self, random: &mut Random, call: Call) -> (Vec<u8>, usize, usize) {
+    /// A book in which no row is broken but 13, if that one is to be.
+    fn book(&mut self, random: &mut Random, call: Call) -> Book {
         // Row 15 needs a pair, and that two atoms.
         let fewest = usize::from(self.has(15));
         let atoms = match call {
@@ -281,15 +296,25 @@ impl Broken {
             _ if self.has(11) => random.within(20, 60),
             _ => random.within(1 + fewest, if self.large { 1024 } else { 20 }),
         };
+        // Row 13 adds two nodes at most.
+        let most = if self.has(13) { 1022 } else { 1024 };
         let (nodes, roots, pairs) = match self.large {
-            true => (random.within(1, 1024), random.within(1, 256), random.within(fewest, 128)),
+            true => (random.within(1, most), random.within(1, 256), random.within(fewest, 128)),
             false => (random.within(1, 12), random.within(1, 5), random.within(fewest, 4)),
         };
-        let mut book = generate::book(random, atoms, nodes, roots, pairs);
-        if call == Call::ListSets {
-            book.nodes[0] = Node::True;
-            book.roots.fill(0);
+        let mut book = match call {
+            Call::ListSets => one_set(random, atoms, nodes, roots, pairs),
+            _ => generate::book(random, atoms, nodes, roots, pairs),
+        };
+        if self.has(13) {
+            self.note(13, damage::unused(random, &mut book));
         }
+        book
+    }
+
+    /// A theory image, with its number of atoms and the room that the call needs.
+    fn theory(&mut self, random: &mut Random, call: Call) -> (Vec<u8>, usize, usize) {
+        let book = self.book(random, call);
         let needed = match call {
             Call::Translate => 16 + 10 * book.flat().rules.len(),
             Call::Extend => book.flat().all,
@@ -302,9 +327,9 @@ impl Broken {
             }
         }
         if call == Call::ListSets {
-            self.note(11, atoms);
+            self.note(11, book.atoms);
         }
-        (image, atoms, needed)
+        (image, book.atoms, needed)
     }
 
     /// An interpretation, or where the call tests one, a candidate.
@@ -330,6 +355,12 @@ impl Broken {
         }
         reading
     }
+}
+
+/// A book whose one answer set is empty. All its roots are the same one.
+fn one_set(random: &mut Random, atoms: usize, nodes: usize, roots: usize, pairs: usize) -> Book {
+    let (book, _) = generate::facts(random, atoms, nodes, 0, pairs);
+    Book { roots: vec![book.roots[0]; roots], ..book }
 }
 
 /// One small change to an image.
