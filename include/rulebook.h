@@ -23,6 +23,7 @@
  *  9       reading's length is not the atom count              count wanted
  *  10      a byte over 2; for a candidate also a byte 1        first such index
  *  11      over 16 true atoms; for a listing A over 12         that number
+ *  13      a node is not used, see below                       first such node
  *  15      a pair is not of two atoms below A, smaller first   first such pair's index
  *  21      program shorter than 16 bytes                       0
  *  22      A, B or K outside its limits (1,024, 3,072, 6,528)  0
@@ -36,9 +37,11 @@
  * nodes, the roots, and the pairs, two bytes for each of the two atoms. A pair stands for
  * the formula `not both`, beside the roots: for a reading and its strong negation.
  *
- * Its rows are tested in the order 1, 2, 4, 5, 6, 7, 15, and before all others of a call.
+ * Its rows are tested in the order 1, 2, 4, 5, 6, 7, 15, 13, and before all others of a call.
  * The place of 6 divided by 8 is the first such node, and the remainder is the first of
  * its fields that is wrong: 0 the kind (over 6), 1 the zero byte, 2 left, 3 right.
+ * A node is used if it is a root, the left of a node of kind 3, or the left or right of
+ * one of kinds 4 to 6, whether that node is used itself or not.
  */
 #ifndef RULEBOOK_H
 #define RULEBOOK_H

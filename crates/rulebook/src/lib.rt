@@ -17,7 +17,8 @@ pub extern "C" fn rulebook_check_theory(theory: &[u8]) -> Answer
 pub extern "C" fn rulebook_evaluate_theory(theory: &[u8], reading: &[u8]) -> Answer
     ensures { λ r. ⌜ EvaluatesTheory (now (theory .entry)) (now (reading .entry)) r ⌝ }
 {
-    let image = theory::check(theory);
+    let mut scratch = [0u8; refusal::MOST_NODES];
+    let image = theory::check_with(theory, &mut scratch);
     if image.number != 0 {
         return image;
     }
@@ -25,7 +26,6 @@ pub extern "C" fn rulebook_evaluate_theory(theory: &[u8], reading: &[u8]) -> Ans
     if bytes.number != 0 {
         return bytes;
     }
-    let mut scratch = [0u8; refusal::MOST_NODES];
     let holds = theory::satisfied(theory, reading, &mut scratch);
     refusal::accept(result_of(holds))
 }

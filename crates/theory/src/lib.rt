@@ -6,7 +6,7 @@ ghost use mathlib.Core.Bool.{true, not, _&&_, _||_};
 ghost use mathlib.Core.List.{map};
 ghost use Prim.Native.Nat.{ℕ, _+_, _*_, _≤_, _<_};
 ghost use lib.Dec.{eqb, ltb};
-ghost use lib.ListN.{length, getD};
+ghost use lib.ListN.{length, getD, replicate};
 ghost use Rattle.refusal.specs.Table.{answer, none};
 ghost use Rattle.refusal.specs.First.{first};
 ghost use Rattle.refusal.specs.Limits.{mostAtoms, mostNodes, mostRoots, mostPairs};
@@ -297,31 +297,40 @@ fn first_unmarked(marks: &[u8], count: usize) -> usize
     k
 }
 
-// The first node of a well-formed book that is not used, and the number of nodes where each is.
-fn first_unused(theory: &[u8]) -> usize
+// The first node of a well-formed book that is not used, and the number of nodes where each is. What is used is marked in `marks`, which are 0 before.
+fn first_unused(theory: &[u8], marks: &mut [u8]) -> usize
     requires { ⌜ none (formRows (now theory)) ≡ true ⌝ }
+    requires { ⌜ now marks ≡ replicate mostNodes 0 ⌝ }
     ensures { λ r. ⌜ r ≡ first (λ k. not (used (bookOf (now (theory .entry))) k)) (nodeCount (now (theory .entry))) ⌝ }
 {
     let count = nodes(theory);
-    let mut marks = [0u8; refusal::MOST_NODES];
-    mark_nodes(&theory[16..], count, &mut marks);
-    mark_roots(&theory[roots_start(theory)..], roots(theory), &mut marks);
-    first_unmarked(&marks, count)
+    mark_nodes(&theory[16..], count, marks);
+    mark_roots(&theory[roots_start(theory)..], roots(theory), marks);
+    first_unmarked(marks, count)
 }
 
-// All rows: those of the form, then whether each node is used.
-pub fn check(theory: &[u8]) -> Answer
+// All rows: those of the form, then whether each node is used, for which `marks` is room; it is 0 before.
+pub fn check_with(theory: &[u8], marks: &mut [u8]) -> Answer
+    requires { ⌜ now marks ≡ replicate mostNodes 0 ⌝ }
     ensures { λ r. ⌜ r ≡ answer (theoryRows (now (theory .entry))) 1 ⌝ }
 {
     let formed = form(theory);
     if formed.number != 0 {
         return formed;
     }
-    let unused = first_unused(theory);
+    let unused = first_unused(theory, marks);
     if unused < nodes(theory) {
         return refusal::refuse(13, unused);
     }
     refusal::accept(1)
+}
+
+// The same, with room of its own.
+pub fn check(theory: &[u8]) -> Answer
+    ensures { λ r. ⌜ r ≡ answer (theoryRows (now (theory .entry))) 1 ⌝ }
+{
+    let mut marks = [0u8; refusal::MOST_NODES];
+    check_with(theory, &mut marks)
 }
 
 // The value of an atom by its byte in a reading, or of a node by its byte among those written.

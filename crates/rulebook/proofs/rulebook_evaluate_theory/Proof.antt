@@ -1,5 +1,5 @@
--- `rulebook_evaluate_theory` gives what `evaluateTheory` says: the image's rows refuse first, then the reading's, and past both the theory is evaluated. Assumes nothing.
-use mathlib.Core.Path.{_≡_, sym, ap, _∙_}
+-- `rulebook_evaluate_theory` gives what `evaluateTheory` says: the image's rows refuse first, for which its scratch is still 0, then the reading's, and past both the theory is evaluated. Assumes nothing.
+use mathlib.Core.Path.{_≡_, refl, sym, ap, _∙_}
 use mathlib.Core.Bool.{true, false}
 use mathlib.Core.List.{List}
 use Prim.Native.Nat.{ℕ}
@@ -24,24 +24,27 @@ abbrev rows-of : tie.Start → (n : ℕ) → List Row
 rows-of s n = readingRows n (now (s .args .reading))
 
 -- Past the first test no row of the image applies,
-image : (c : tie.Else1) → none (theoryRows (theory-of (c .before .before .before .before .before))) ≡ true
-image c = none-accepted (theoryRows _) 1 (numbered-theoryRows _) (c .before .before .check .ensures) (c .if1 .left)
+image : (c : tie.Else1) → none (theoryRows (theory-of (c .before .before .before .before .before .before .before))) ≡ true
+image c = none-accepted (theoryRows _) 1 (numbered-theoryRows _) (c .before .before .before .check-with .ensures) (c .if1 .left)
 
 -- and the reading is tried at A.
-tried : (c : tie.After-reading) → let s = c .before .before .before .before .before .before .before in
+tried : (c : tie.After-reading) → let s = c .before .before .before .before .before .before .before .before .before in
     c .reading .result ≡ answer (rows-of s (atomCount (theory-of s))) 0
 tried c = rw (c .before .atoms .ensures .0) at (c .reading .ensures)
 
 -- Past the second none of the reading's does.
-bytes : (c : tie.Else2) → let s = c .before .before .before .before .before .before .before .before .before in
+bytes : (c : tie.Else2) → let s = c .before .before .before .before .before .before .before .before .before .before .before in
     none (rows-of s (atomCount (theory-of s))) ≡ true
 bytes c = none-accepted (readingRows _ _) 0 (numbered-argumentRows false _ _) (tried (c .before .before)) (c .if2 .left)
 
-check-requires : tie.Need-check-requires
-check-requires c κs = search needs
+slice-aggregate-check-with : tie.Need-slice-aggregate-check-with
+slice-aggregate-check-with c = search needs
+
+check-with-requires : tie.Need-check-with-requires
+check-with-requires c κs = refl
 
 returns : tie.Need-returns
-returns c = answer-refused (theoryRows _) _ 1 _ (c .before .before .check .ensures) (c .if1 .taken)
+returns c = answer-refused (theoryRows _) _ 1 _ (c .before .before .before .check-with .ensures) (c .if1 .taken)
 
 atoms-requires : tie.Need-atoms-requires
 atoms-requires c κs = Accepted.accepted _ (image c) .header .long
@@ -76,7 +79,8 @@ pub rulebook-evaluate-theory-spec : {M : Type 1} → statement M
 rulebook-evaluate-theory-spec =
     tie.close
     (tie.spec
-    check-requires
+    slice-aggregate-check-with
+    check-with-requires
     returns
     atoms-requires
     reading-requires

@@ -1,4 +1,4 @@
--- `check` gives a theory's rows: where those of the form refuse that answer stands, else row 13 decides. Assumes nothing.
+-- `check_with` gives a theory's rows: where those of the form refuse that answer stands, else row 13 decides. Assumes nothing.
 use mathlib.Core.Path.{_≡_}
 use mathlib.Core.Bool.{true}
 use mathlib.Core.List.{List, [], _∷_}
@@ -11,11 +11,11 @@ use Rattle.refusal.proofs.First.{first-refused, first-next}
 use Rattle.theory.specs.Rows.{row13, formRows, theoryRows}
 use Rattle.theory.proofs.Rows.{numbered-formRows}
 use Rattle.theory.proofs.Accepted.{formed}
-use Rattle.theory.proofs.check.Statement.{statement}
-use Rattle.theory.proofs.check.Tie as tie
+use Rattle.theory.proofs.check_with.Statement.{statement}
+use Rattle.theory.proofs.check_with.Tie as tie
 
 abbrev image : tie.Else1 → List ℕ
-image c = now (c .before .before .before .before .args .theory)
+image c = now (c .before .before .before .before .before .args .theory)
 
 -- behind the first test none of the form's rows applies,
 clear : (c : tie.Else1) → none (formRows (image c)) ≡ true
@@ -34,31 +34,37 @@ unfolding theoryRows
 returns c = answer-refused (formRows _) _ 0 1 (c .before .before .form .ensures) (c .if1 .taken)
 
 first-unused-requires : tie.Need-first-unused-requires
-first-unused-requires c κs = clear c
+first-unused-requires c κs = (clear (c .before), c .before .before .before .before .before .before .pre)
 
 nodes-requires : tie.Need-nodes-requires
-nodes-requires c κs = formed _ (clear (c .before)) .header .long
+nodes-requires c κs = formed _ (clear (c .before .before .before .before)) .header .long
 
 refuse-requires : tie.Need-refuse-requires
 refuse-requires c κs = search needs
 
+same-length : tie.Need-same-length
+same-length c = search needs
+
 returns-2 : tie.Need-returns-2
 returns-2 c =
     let count = c .before .before in
-    let found = count .before in
-    first-refused 13 (λ k. k) _ _ _ (found .first-unused .ensures) (past (found .before)) (rw (count .nodes .ensures .0) at (c .before .if2 .taken)) (c .refuse .ensures)
+    let found = count .before .before .before in
+    first-refused 13 (λ k. k) _ _ _ (found .first-unused .ensures) (past (found .before .before)) (rw (count .nodes .ensures .0) at (c .before .if2 .taken)) (c .refuse .ensures)
 
 accept-requires : tie.Need-accept-requires
 accept-requires c κs = search needs
 
+same-length-2 : tie.Need-same-length-2
+same-length-2 c = search needs
+
 returns-3 : tie.Need-returns-3
 returns-3 c =
     let count = c .before .before in
-    let found = count .before in
-    reached-accepted (first-next 13 (λ k. k) _ _ _ (found .first-unused .ensures) (past (found .before)) (rw (count .nodes .ensures .0) at (c .before .if2 .left))) (c .accept .ensures)
+    let found = count .before .before .before in
+    reached-accepted (first-next 13 (λ k. k) _ _ _ (found .first-unused .ensures) (past (found .before .before)) (rw (count .nodes .ensures .0) at (c .before .if2 .left))) (c .accept .ensures)
 
-pub check-spec : {M : Type 1} → statement M
-check-spec =
+pub check-with-spec : {M : Type 1} → statement M
+check-with-spec =
     tie.close
     (tie.spec
     form-requires
@@ -66,6 +72,8 @@ check-spec =
     first-unused-requires
     nodes-requires
     refuse-requires
+    same-length
     returns-2
     accept-requires
+    same-length-2
     returns-3)
