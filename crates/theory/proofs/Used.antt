@@ -1,5 +1,5 @@
 -- Laws of the nodes that are used, and of their marks: an operand is an earlier node, and what is not marked in the end is not used. By cases on the kind, and by induction on the nodes and on what is marked.
-use mathlib.Core.Path.{_≡_, refl, ap, _∙_}
+use mathlib.Core.Path.{_≡_, refl, _∙_}
 use mathlib.Core.Logic.{_↔_, _⊎_, inl, inr, ⊎-elim}
 use mathlib.Core.Bool.{Bool, true, false, not, _||_, cond, false≢true}
 use mathlib.Core.List.{List, [], _∷_, _++_, append-assoc, append-nil}

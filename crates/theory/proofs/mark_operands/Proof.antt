@@ -1,10 +1,8 @@
 -- `mark_operands` marks a node's operands: its two early ends are those of `operandsOf-kindOf`, and the node's row keeps its operands in range. Assumes nothing.
-use mathlib.Core.Path.{_≡_}
-use mathlib.Core.Bool.{true}
 use mathlib.Core.List.{[], _∷_}
-use Prim.Native.Nat.{ℕ, _+_, _*_, _<_}
+use Prim.Native.Nat.{_+_, _*_, _<_}
 use native.Mathlib.Omega.{arith}
-use lib.ListN.{getD, length-set}
+use lib.ListN.{length-set}
 use denote.Ref.{now}
 use borrow.Author.Needs.{needs}
 use borrow.Author.Tests.{lt-ltb, le-ltb, ltb-true, eq-eqb, ne-eqb}
@@ -12,7 +10,6 @@ use Rattle.logic.proofs.Bools.{&&-split}
 use Rattle.wire.specs.Wire.{u16At}
 use Rattle.wire.proofs.Laws.{allBelow-at}
 use Rattle.theory.specs.Image.{nodeIn}
-use Rattle.theory.specs.Used.{operands}
 use Rattle.theory.proofs.Images.{operandsOf-kindOf}
 use Rattle.theory.proofs.mark_operands.Statement.{statement}
 use Rattle.theory.proofs.mark_operands.Tie as tie
