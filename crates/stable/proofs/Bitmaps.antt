@@ -69,17 +69,17 @@ module _ (test : ℕ → Bool) (bitmap : List ℕ) (i : ℕ) (fits : i < length 
       (bit-numberOf (upTo (λ j. test (i * 8 + j)) 8) (c % 8) ∙ getD-upTo (λ j. test (i * 8 + j)) 8 (c % 8) false (omega arith) ∙ ap test whole))
 
 -- Room of the same lengths will do as well.
-pub listable-kept : {theory candidate reading values candidate₂ reading₂ values₂ : List ℕ} → Listable theory candidate reading values
-    → length candidate₂ ≡ length candidate → length reading₂ ≡ length reading → length values₂ ≡ length values → Listable theory candidate₂ reading₂ values₂
-listable-kept l c r v = record { checked = l .checked; few = l .few; sized = c ∙ l .sized; wide = rw r (l .wide); long = rw v (l .long) }
+pub listable-kept : {theory reading values reading₂ values₂ : List ℕ} → Listable theory reading values
+    → length reading₂ ≡ length reading → length values₂ ≡ length values → Listable theory reading₂ values₂
+listable-kept l r v = record { checked = l .checked; few = l .few; sized = r ∙ l .sized; long = rw v (l .long) }
 
 -- The candidate of a number's set can be tested, and the test says whether that set is listed.
-module _ {theory candidate reading values : List ℕ} (l : Listable theory candidate reading values) (c : ℕ) where
+module _ {theory reading values : List ℕ} (l : Listable theory reading values) (c : ℕ) where
   abbrev numbered : List ℕ
-  numbered = candidateOf (setOfNumber (length candidate) c)
+  numbered = candidateOf (setOfNumber (length reading) c)
 
   length-numbered : length numbered ≡ atomCount theory
-  length-numbered = length-candidateOf (setOfNumber (length candidate) c) ∙ length-setOfNumber _ _ ∙ l .sized
+  length-numbered = length-candidateOf (setOfNumber (length reading) c) ∙ length-setOfNumber _ _ ∙ l .sized
 
   pub number-testable : Testable false theory numbered
   number-testable = record {

@@ -1,8 +1,8 @@
 -- A candidate's bytes are those of the reading of its set, since each of them is 0 or 2. By induction on the bytes.
-use mathlib.Core.Path.{_≡_, refl, ap, ap₂, _∙_}
+use mathlib.Core.Path.{_≡_, refl, sym, ap, ap₂, _∙_}
 use mathlib.Core.Bool.{Bool, true, false, cond, true≢false}
-use mathlib.Core.List.{List, [], _∷_, _++_}
-use Prim.Native.Nat.{ℕ, zero, suc, _+_, _/_, _%_, _*_, _≤_, _<_}
+use mathlib.Core.List.{List, [], _∷_, _++_, map}
+use Prim.Native.Nat.{ℕ, zero, suc, _+_, _-_, _*_, _/_, _%_, _^_, _≤_, _<_}
 use native.Mathlib.Numerals.{add-one}
 use native.Mathlib.Omega.{arith}
 use lib.Dec.{eqb}
@@ -16,10 +16,10 @@ use Rattle.logic.specs.Formula.{readingOf}
 use Rattle.logic.specs.Atoms.{Atoms, mark, reading, hereOf}
 use Rattle.logic.proofs.Sets.{inside-refl, hereOf-reading, length-reading}
 use Rattle.logic.proofs.Formulas.{readingOf-number}
-use Rattle.stable.specs.Subset.{setOf, candidateOf, odd, subset, Candidate, lowered}
+use Rattle.stable.specs.Subset.{setOf, candidateOf, odd, subset, Candidate, lowered, placesFrom}
 use Rattle.stable.specs.Number.{setOfNumber}
 use Rattle.stable.proofs.Digits.{digit-odd}
-use Rattle.stable.proofs.Subsets.{size}
+use Rattle.stable.proofs.Subsets.{size, subset-full}
 
 pub length-setOf : (bytes : List ℕ) → length (setOf bytes) ≡ length bytes
 length-setOf bytes = length-map (readingOf bytes) trueHere ∙ length-map bytes ofByte
@@ -34,12 +34,17 @@ candidate-byte P none two (suc (suc (suc b))) h = absurd (true≢false (rw (lt-l
 candidate-tail : (b : ℕ) (bytes : List ℕ) → Candidate (b ∷ bytes) → Candidate bytes
 candidate-tail b bytes h i l = h (suc i) (omega arith)
 
--- A candidate is the reading of its set, and its bytes 2 are the atoms of the set.
+-- A candidate is that of its set, and so the reading of it; its bytes 2 are the atoms of the set.
+candidate-bytes : (bytes : List ℕ) → Candidate bytes → bytes ≡ candidateOf (setOf bytes)
+unfolding candidateOf
+candidate-bytes [] h = refl
+candidate-bytes (b ∷ bytes) h = ap₂ _∷_
+    (candidate-byte (λ b. b ≡ number (mark (trueHere (ofByte b)) (trueHere (ofByte b)))) refl refl b (h 0 (omega arith)))
+    (candidate-bytes bytes (candidate-tail b bytes h))
+
 pub candidate-reading : (bytes : List ℕ) → Candidate bytes → readingOf bytes ≡ reading (setOf bytes) (setOf bytes)
-candidate-reading [] h = refl
-candidate-reading (b ∷ bytes) h = ap₂ _∷_
-    (candidate-byte (λ b. ofByte b ≡ mark (trueHere (ofByte b)) (trueHere (ofByte b))) refl refl b (h 0 (omega arith)))
-    (candidate-reading bytes (candidate-tail b bytes h))
+unfolding candidateOf
+candidate-reading bytes h = ap readingOf (candidate-bytes bytes h) ∙ readingOf-number (reading (setOf bytes) (setOf bytes))
 
 pub candidate-size : (bytes : List ℕ) → Candidate bytes → size (setOf bytes) ≡ countTrue bytes
 unfolding size countTrue
@@ -79,27 +84,25 @@ candidateOf-number n c = ap (λ b. b ∷ candidateOf (setOfNumber n (c / 2))) (m
 
 -- The smaller readings.
 
-pub lowered-reading : (bytes : List ℕ) (m : ℕ) → readingOf (lowered bytes m) ≡ reading (subset (setOf bytes) m) (setOf bytes)
+pub lowered-reading : (T : Atoms) (m : ℕ) → readingOf (lowered T m) ≡ reading (subset T m) T
 unfolding lowered
-lowered-reading bytes m = readingOf-number (reading (subset (setOf bytes) m) (setOf bytes))
+lowered-reading T m = readingOf-number (reading (subset T m) T)
 
-lowered-cons : (b : ℕ) (bytes : List ℕ) (m : ℕ) → wrong true b ≡ false
-    → lowered (b ∷ bytes) m ≡ cond (eqb b 2) ((1 + m % 2) ∷ lowered bytes (m / 2)) (0 ∷ lowered bytes m)
-unfolding lowered subset
-lowered-cons b bytes m =
-    candidate-byte (λ b. lowered (b ∷ bytes) m ≡ cond (eqb b 2) ((1 + m % 2) ∷ lowered bytes (m / 2)) (0 ∷ lowered bytes m))
-    refl (ap (λ d. d ∷ lowered bytes (m / 2)) (marked (odd m) ∙ ap (λ d. 1 + d) (digit-odd m))) b
-  where
-    marked : (b : Bool) → number (mark b true) ≡ 1 + cond b 1 0
-    marked true = refl
-    marked false = refl
+-- A candidate is the reading of the full subset of its set.
+pub candidate-full : (bytes : List ℕ) → Candidate bytes → bytes ≡ lowered (setOf bytes) (2 ^ size (setOf bytes) - 1)
+unfolding lowered candidateOf
+candidate-full bytes h = candidate-bytes bytes h ∙ ap (λ H. map number (reading H (setOf bytes))) (sym (subset-full (setOf bytes)))
 
--- From an index on: what the byte there becomes, and the number that is left for the bytes behind it.
-module _ (bytes : List ℕ) (h : Candidate bytes) (i m : ℕ) (l : i < length bytes) where
-  pub lowered-drop : lowered (drop i bytes) m ≡ cond (eqb (getD bytes i 0) 2) ((1 + m % 2) ∷ lowered (drop (i + 1) bytes) (m / 2)) (0 ∷ lowered (drop (i + 1) bytes) m)
-  lowered-drop = rw (drop-cons bytes i 0 l, add-one) (lowered-cons (getD bytes i 0) (drop (suc i) bytes) m (h i l))
+-- The places from an index on: whether the index itself is one.
+module _ (bytes : List ℕ) (h : Candidate bytes) (i : ℕ) (l : i < length bytes) where
+  pub places-at : placesFrom i (setOf (drop i bytes)) ≡ cond (eqb (getD bytes i 0) 2) (i ∷ placesFrom (i + 1) (setOf (drop (i + 1) bytes))) (placesFrom (i + 1) (setOf (drop (i + 1) bytes)))
+  unfolding placesFrom
+  places-at =
+      let rest = drop (i + 1) bytes in
+      let begins : drop i bytes ≡ getD bytes i 0 ∷ rest = rw (drop-cons bytes i 0 l, add-one) in
+      rw begins (candidate-byte (λ b. placesFrom i (setOf (b ∷ rest)) ≡ cond (eqb b 2) (i ∷ placesFrom (i + 1) (setOf rest)) (placesFrom (i + 1) (setOf rest))) refl refl (getD bytes i 0) (h i l))
 
--- A byte written where the unwritten rest begins.
-pub next-byte : (out : List ℕ) (i byte : ℕ) (rest all : List ℕ) {old : List ℕ} → i < length out → take i out ++ old ≡ all → old ≡ byte ∷ rest
-    → take (i + 1) (set out i byte) ++ rest ≡ all
-next-byte out i byte rest all l w e = rw (add-one, take-suc-set out i byte l, append-snoc) (rw e at w)
+-- A number written where the unwritten rest begins.
+pub next-number : (out : List ℕ) (i n : ℕ) (rest all : List ℕ) {old : List ℕ} → i < length out → take i out ++ old ≡ all → old ≡ n ∷ rest
+    → take (i + 1) (set out i n) ++ rest ≡ all
+next-number out i n rest all l w e = rw (add-one, take-suc-set out i n l, append-snoc) (rw e at w)

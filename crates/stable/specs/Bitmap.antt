@@ -5,7 +5,7 @@ use mathlib.Core.List.{List, [], _∷_, _++_}
 use Prim.Native.Nat.{ℕ, zero, suc, _+_, _/_, _%_, _^_, _≤_}
 use lib.ListN.{length, getD}
 use Rattle.wire.specs.Sequence.{upTo}
-use Rattle.refusal.specs.Limits.{mostAtoms, mostNodes, mostListed}
+use Rattle.refusal.specs.Limits.{mostNodes, mostListed}
 use Rattle.refusal.specs.Table.{none}
 use Rattle.logic.specs.AnswerSet.{isAnswerSet}
 use Rattle.theory.specs.Book.{bookFormulas}
@@ -31,10 +31,9 @@ eightOf test from = numberOf (upTo (λ j. test (from + j)) 8)
 unfoldable pub isListed : List ℕ → ℕ → Bool
 isListed theory c = isAnswerSet (atomCount theory) (bookFormulas (bookOf theory)) (setOfNumber (atomCount theory) c)
 
--- The theory is checked and has few atoms, and there is room for a candidate of it, for a reading and for the values of nodes.
-pub record Listable (theory candidate reading values : List ℕ) : Type 0 where
+-- The theory is checked and has few atoms, and there is room for a reading of it and for the values of nodes.
+pub record Listable (theory reading values : List ℕ) : Type 0 where
   pub checked : none (theoryRows theory) ≡ true
   pub few : atomCount theory ≤ mostListed
-  pub sized : length candidate ≡ atomCount theory
-  pub wide : mostAtoms ≤ length reading
+  pub sized : length reading ≡ atomCount theory
   pub long : mostNodes ≤ length values

@@ -2,7 +2,7 @@
 use mathlib.Core.Path.{_≡_}
 use mathlib.Core.Bool.{Bool, true, false}
 use mathlib.Core.List.{List, [], _∷_, map}
-use Prim.Native.Nat.{ℕ, _/_, _%_, _<_}
+use Prim.Native.Nat.{ℕ, _+_, _/_, _%_, _<_}
 use lib.Dec.{eqb}
 use lib.ListN.{length, getD}
 use Rattle.refusal.specs.Rows.{wrong}
@@ -32,6 +32,15 @@ candidateOf T = map number (reading T T)
 abbrev pub Candidate : List ℕ → Type 0
 Candidate bytes = (i : ℕ) → i < length bytes → wrong true (getD bytes i 0) ≡ false
 
--- The bytes with 2 on the subset with the number m, 1 on the rest of the candidate, 0 elsewhere.
-unfoldable pub lowered : List ℕ → ℕ → List ℕ
-lowered bytes m = map number (reading (subset (setOf bytes) m) (setOf bytes))
+-- The bytes with 2 on the subset of T with the number m, 1 on the rest of T, 0 elsewhere.
+unfoldable pub lowered : Atoms → ℕ → List ℕ
+lowered T m = map number (reading (subset T m) T)
+
+-- Where the atoms of T stand, ascending, if T itself begins at i.
+unfoldable pub placesFrom : (i : ℕ) → Atoms → List ℕ
+placesFrom i [] = []
+placesFrom i (true ∷ T) = i ∷ placesFrom (i + 1) T
+placesFrom i (false ∷ T) = placesFrom (i + 1) T
+
+abbrev pub placesOf : Atoms → List ℕ
+placesOf T = placesFrom 0 T

@@ -2,13 +2,14 @@
 use refusal::Answer;
 ghost use mathlib.Core.Path.{_≡_};
 ghost use mathlib.Core.Bool.{true};
-ghost use Prim.Native.Nat.{ℕ, _*_, _^_, _≤_, _<_};
+ghost use Prim.Native.Nat.{ℕ, _+_, _*_, _^_, _≤_, _<_};
 ghost use lib.ListN.{length, take};
-ghost use Rattle.wire.specs.Wire.{over};
+ghost use Rattle.wire.specs.Wire.{over, allBelow};
 ghost use Rattle.refusal.specs.Limits.{mostTrue};
 ghost use Rattle.refusal.specs.Table.{none, answer};
 ghost use Rattle.refusal.specs.Rows.{candidateRows, countTrue};
 ghost use Rattle.logic.specs.Formula.{readingOf, satisfies};
+ghost use Rattle.logic.specs.Atoms.{Atoms};
 ghost use Rattle.logic.specs.AnswerSet.{isAnswerSet};
 ghost use Rattle.theory.specs.Book.{bookFormulas};
 ghost use Rattle.theory.specs.Image.{atomCount, bookOf};
@@ -17,29 +18,10 @@ ghost use Rattle.program.specs.Program.{programFormulas};
 ghost use Rattle.program.specs.Image.{sizeOf, programOf};
 ghost use Rattle.program.specs.Rows.{programRows};
 ghost use Rattle.stable.specs.Image.{imageRows, atomsOf, mostBytes, mostValues, formulasOf, Testable};
-ghost use Rattle.stable.specs.Subset.{setOf, Candidate, candidateOf, lowered};
+ghost use Rattle.stable.specs.Subset.{setOf, Candidate, candidateOf, lowered, placesOf};
 ghost use Rattle.stable.specs.Number.{setOfNumber};
 ghost use Rattle.stable.specs.Listing.{numbersBytes, setsOf, setsRows, listed};
 ghost use Rattle.stable.specs.Bitmap.{bitAt, passing, eightOf, isListed, Listable};
-
-// Writes the reading of the subset with the number `m` over the start of `out`: 2 on the atoms of the subset, 1 on the other atoms of the candidate, 0 elsewhere.
-fn lower(candidate: &[u8], m: usize, out: &mut [u8])
-    requires { ⌜ Candidate (now candidate) ⌝ }
-    requires { ⌜ length (now candidate) ≤ length (now out) ⌝ }
-    ensures { λ _. ⌜ take (length (now (candidate .entry))) (now (out .exit)) ≡ lowered (now (candidate .entry)) m ⌝ }
-{
-    let mut rest = m;
-    let mut i = 0;
-    while i < candidate.len() {
-        if candidate[i] == 2 {
-            out[i] = (1 + rest % 2) as u8;
-            rest /= 2;
-        } else {
-            out[i] = 0;
-        }
-        i += 1;
-    }
-}
 
 // Whether a reading satisfies the theory, or the program.
 fn satisfied(image: &[u8], program: bool, reading: &[u8], values: &mut [u8]) -> bool
@@ -62,8 +44,69 @@ fn two_to(k: usize) -> usize
     1 << k
 }
 
-// Whether the candidate is an answer set: it satisfies, and no smaller reading does. `reading` is room for one, and `values` for the values of nodes.
-fn is_answer_set(
+// Writes where the true atoms of a candidate stand over the start of `places`, and gives how many they are.
+fn places_of(candidate: &[u8], places: &mut [usize; refusal::MOST_TRUE]) -> usize
+    requires { ⌜ Candidate (now candidate) ⌝ }
+    requires { ⌜ countTrue (now candidate) ≤ mostTrue ⌝ }
+    requires { ⌜ length (now places) ≡ mostTrue ⌝ }
+    ensures { λ r. ⌜ take r (now (places .exit)) ≡ placesOf (setOf (now (candidate .entry))) ⌝ }
+    ensures { λ r. ⌜ r ≡ countTrue (now (candidate .entry)) ⌝ }
+    ensures { λ _. ⌜ length (now (places .exit)) ≡ mostTrue ⌝ }
+{
+    let mut count = 0;
+    let mut i = 0;
+    while i < candidate.len() {
+        if candidate[i] == 2 {
+            places[count] = i;
+            count += 1;
+        }
+        i += 1;
+    }
+    count
+}
+
+// Steps a reading to that of the next subset: the first atom that the subset leaves out joins it, and those before it leave. After the full subset comes the empty one.
+fn step(places: &[usize], reading: &mut [u8])
+    requires { ⌜ allBelow (length (now reading)) (now places) ≡ true ⌝ }
+    ensures { λ _. ⌜ ((T : Atoms) (m : ℕ) → now (places .entry) ≡ placesOf T → now (reading .entry) ≡ lowered T m → now (reading .exit) ≡ lowered T (m + 1)) ⌝ }
+{
+    let mut k = 0;
+    while k < places.len() {
+        let at = places[k];
+        if reading[at] == 1 {
+            reading[at] = 2;
+            return;
+        }
+        reading[at] = 1;
+        k += 1;
+    }
+}
+
+// Whether the candidate that `reading` holds is an answer set: it satisfies, and no smaller reading does. These are stepped through in its place; `values` is room for the values of nodes.
+fn is_answer_set(image: &[u8], program: bool, reading: &mut [u8], values: &mut [u8]) -> bool
+    requires { ⌜ Testable program (now image) (now reading) ⌝ }
+    requires { ⌜ mostValues program ≤ length (now values) ⌝ }
+    ensures { λ r. ⌜ r ≡ isAnswerSet (atomsOf program (now (image .entry))) (formulasOf program (now (image .entry))) (setOf (now (reading .entry))) ⌝ }
+{
+    if !satisfied(image, program, reading, values) {
+        return false;
+    }
+    let mut places = [0; refusal::MOST_TRUE];
+    let count = places_of(reading, &mut places);
+    let full = two_to(count) - 1;
+    let mut m = 0;
+    while m < full {
+        step(&places[..count], reading);
+        if satisfied(image, program, reading, values) {
+            return false;
+        }
+        m += 1;
+    }
+    true
+}
+
+// Whether a candidate is an answer set of a theory, or of a program; `reading` is room for it, and `values` for the values of nodes.
+fn test(
     image: &[u8],
     program: bool,
     candidate: &[u8],
@@ -75,19 +118,8 @@ fn is_answer_set(
     requires { ⌜ mostValues program ≤ length (now values) ⌝ }
     ensures { λ r. ⌜ r ≡ isAnswerSet (atomsOf program (now (image .entry))) (formulasOf program (now (image .entry))) (setOf (now (candidate .entry))) ⌝ }
 {
-    if !satisfied(image, program, candidate, values) {
-        return false;
-    }
-    let full = two_to(refusal::count_true(candidate)) - 1;
-    let mut m = 0;
-    while m < full {
-        lower(candidate, m, reading);
-        if satisfied(image, program, &reading[..candidate.len()], values) {
-            return false;
-        }
-        m += 1;
-    }
-    true
+    let atoms = wire::put(reading, candidate);
+    is_answer_set(image, program, &mut reading[..atoms], values)
 }
 
 // Whether a candidate is an answer set of a theory.
@@ -99,7 +131,7 @@ pub fn test_theory(theory: &[u8], candidate: &[u8]) -> bool
 {
     let mut reading = [0u8; refusal::MOST_ATOMS];
     let mut values = [0u8; refusal::MOST_NODES];
-    is_answer_set(theory, false, candidate, &mut reading, &mut values)
+    test(theory, false, candidate, &mut reading, &mut values)
 }
 
 // Whether a candidate is an answer set of a program.
@@ -110,7 +142,7 @@ pub fn test_program(program: &[u8], candidate: &[u8]) -> bool
     ensures { λ r. ⌜ r ≡ isAnswerSet (sizeOf (now (program .entry))) (programFormulas (programOf (now (program .entry)))) (setOf (now (candidate .entry))) ⌝ }
 {
     let mut reading = [0u8; refusal::MOST_B];
-    is_answer_set(program, true, candidate, &mut reading, &mut [])
+    test(program, true, candidate, &mut reading, &mut [])
 }
 
 // Writes the candidate of the set with this number over all of `out`.
@@ -126,15 +158,9 @@ fn candidate_of(number: usize, out: &mut [u8])
     }
 }
 
-// Which of the eight sets with the numbers from `from` on are answer sets, a bit for each; the last three slices are room for a test.
-fn eight(
-    theory: &[u8],
-    from: usize,
-    candidate: &mut [u8],
-    reading: &mut [u8],
-    values: &mut [u8],
-) -> u8
-    requires { ⌜ Listable (now theory) (now candidate) (now reading) (now values) ⌝ }
+// Which of the eight sets with the numbers from `from` on are answer sets, a bit for each; the last two slices are room for a test.
+fn eight(theory: &[u8], from: usize, reading: &mut [u8], values: &mut [u8]) -> u8
+    requires { ⌜ Listable (now theory) (now reading) (now values) ⌝ }
     requires { ⌜ from ≤ 4096 ⌝ }
     ensures { λ r. ⌜ r ≡ eightOf (isListed (now (theory .entry))) from ⌝ }
 {
@@ -142,8 +168,8 @@ fn eight(
     let mut weight: usize = 1;
     let mut j = 0;
     while j < 8 {
-        candidate_of(from + j, candidate);
-        if is_answer_set(theory, false, candidate, reading, values) {
+        candidate_of(from + j, reading);
+        if is_answer_set(theory, false, reading, values) {
             bits += weight;
         }
         weight *= 2;
@@ -153,21 +179,15 @@ fn eight(
 }
 
 // Sets the bits of the numbers whose sets are answer sets; the slices between are room for a test.
-fn find_sets(
-    theory: &[u8],
-    candidate: &mut [u8],
-    reading: &mut [u8],
-    values: &mut [u8],
-    found: &mut [u8; 512],
-)
-    requires { ⌜ Listable (now theory) (now candidate) (now reading) (now values) ⌝ }
+fn find_sets(theory: &[u8], reading: &mut [u8], values: &mut [u8], found: &mut [u8; 512])
+    requires { ⌜ Listable (now theory) (now reading) (now values) ⌝ }
     requires { ⌜ length (now found) ≡ 512 ⌝ }
     ensures { λ _. ⌜ ((c : ℕ) → c < 2 ^ atomCount (now (theory .entry)) → bitAt (now (found .exit)) c ≡ isListed (now (theory .entry)) c) ⌝ }
 {
-    let sets = two_to(candidate.len());
+    let sets = two_to(reading.len());
     let mut i = 0;
     while i * 8 < sets {
-        found[i] = eight(theory, i * 8, candidate, reading, values);
+        found[i] = eight(theory, i * 8, reading, values);
         i += 1;
     }
 }
@@ -223,17 +243,10 @@ pub fn list_sets(theory: &[u8], out: &mut [u8]) -> Answer
     if refusal::MOST_LISTED < atoms {
         return refusal::refuse(11, atoms);
     }
-    let mut candidate = [0u8; refusal::MOST_LISTED];
-    let mut reading = [0u8; refusal::MOST_ATOMS];
+    let mut reading = [0u8; refusal::MOST_LISTED];
     let mut values = [0u8; refusal::MOST_NODES];
     let mut found = [0u8; 512];
-    find_sets(
-        theory,
-        &mut candidate[..atoms],
-        &mut reading,
-        &mut values,
-        &mut found,
-    );
+    find_sets(theory, &mut reading[..atoms], &mut values, &mut found);
     let sets = two_to(atoms);
     let count = count_set(&found, sets);
     if out.len() < 2 * count {

@@ -10,7 +10,7 @@ use denote.Ref.{now}
 use borrow.Author.Needs.{needs}
 use Rattle.stable.specs.Subset.{candidateOf}
 use Rattle.stable.specs.Number.{setOfNumber}
-use Rattle.stable.proofs.Candidates.{next-byte, candidateOf-number}
+use Rattle.stable.proofs.Candidates.{next-number, candidateOf-number}
 use Rattle.stable.proofs.candidate_of.Statement.{statement}
 use Rattle.stable.proofs.candidate_of.Tie as tie
 
@@ -44,7 +44,7 @@ loop-again c =
     let loop = c .before .loop in
     let n = length (now (c .before .before .args .out)) in
     let e : n - loop .i ≡ suc (n - (loop .i + 1)) = omega arith in (
-      next-byte (loop .out) (loop .i) _ _ _ (omega arith) (rw e at (loop .inv .0)) (candidateOf-number (n - (loop .i + 1)) (loop .rest)),
+      next-number (loop .out) (loop .i) _ _ _ (omega arith) (rw e at (loop .inv .0)) (candidateOf-number (n - (loop .i + 1)) (loop .rest)),
       search needs,
       simp length-set (omega arith),
     )
