@@ -84,26 +84,29 @@ fn pairs(random: &mut Random, reading: &[u8], count: usize) -> Vec<Pair> {
     pairs
 }
 
-/// A book whose one answer set is `truths` atoms out of `atoms`: each of them is a root. Further nodes stand beside,
-/// under one more root, the first, which always holds, and pairs that hold.
+/// A book whose one answer set is `truths` atoms out of `atoms`, as in `facts_of`.
 pub fn facts(random: &mut Random, atoms: usize, nodes: usize, truths: usize, pairs: usize) -> (Book, Vec<u8>) {
-    let mut set = vec![0; atoms];
-    while set.iter().filter(|&&byte| byte == 2).count() < truths {
-        set[random.below(atoms)] = 2;
-    }
-    let chosen = (0..atoms).filter(|&atom| set[atom] == 2).map(Node::Atom);
-    let mut growth = Growth { nodes: chosen.collect(), ..Growth::default() };
+    let set = set(random, atoms, truths);
+    (facts_of(random, &set, nodes, pairs), set)
+}
+
+/// A book whose one answer set is this one: each true atom is a root. Further nodes stand beside, under one more root,
+/// the first, which always holds, and pairs that hold.
+pub fn facts_of(random: &mut Random, set: &[u8], nodes: usize, pairs: usize) -> Book {
+    let chosen: Vec<Node> = true_atoms(set).map(Node::Atom).collect();
+    let truths = chosen.len();
+    let mut growth = Growth { nodes: chosen, ..Growth::default() };
     let mut roots: Vec<usize> = (0..truths).collect();
     if nodes > truths {
-        let style = Style::any(random, atoms);
+        let style = Style::any(random, set.len());
         growth.grow(random, &style, nodes - 1, 1);
         // The last of these nodes is the only loose one.
         let always = growth.loose.last().map_or(Node::True, |&last| Node::Implies(last, last));
         growth.push(always);
         roots.insert(0, nodes - 1);
     }
-    let pairs = self::pairs(random, &set, pairs);
-    (Book { pairs, ..Book::new(atoms, growth.nodes, roots) }, set)
+    let pairs = self::pairs(random, set, pairs);
+    Book { pairs, ..Book::new(set.len(), growth.nodes, roots) }
 }
 
 /// The book with the root `a or not a` for each of its atoms beside: every set that satisfied it is an answer set.
@@ -150,10 +153,7 @@ fn rule(random: &mut Random, all: usize) -> Rule {
 
 /// A program whose one answer set is `truths` atoms: each is a fact, and every other rule asks for an atom outside.
 pub fn fact_program(random: &mut Random, all: usize, rules: usize, truths: usize) -> (Program, Vec<u8>) {
-    let mut set = vec![0; all];
-    while set.iter().filter(|&&byte| byte == 2).count() < truths {
-        set[random.below(all)] = 2;
-    }
+    let set = set(random, all, truths);
     let mut program = program(random, 0, all, rules.max(truths));
     let outside: Vec<usize> = (0..all).filter(|&atom| set[atom] == 0).collect();
     for rule in &mut program.rules {
@@ -162,10 +162,37 @@ pub fn fact_program(random: &mut Random, all: usize, rules: usize, truths: usize
         rule.negatives.clear();
     }
     let step = program.rules.len() / truths.max(1);
-    for (own, atom) in (0..all).filter(|&atom| set[atom] == 2).enumerate() {
+    for (own, atom) in true_atoms(&set).enumerate() {
         program.rules[own * step] = Rule::new(&[atom], &[], &[]);
     }
     (program, set)
+}
+
+/// A candidate with exactly `truths` true atoms out of `atoms`.
+pub fn set(random: &mut Random, atoms: usize, truths: usize) -> Vec<u8> {
+    let mut set = vec![0; atoms];
+    while true_atoms(&set).count() < truths {
+        set[random.below(atoms)] = 2;
+    }
+    set
+}
+
+/// The candidate with these true atoms out of `atoms`.
+pub fn set_of(atoms: usize, truths: &[usize]) -> Vec<u8> {
+    let mut set = vec![0; atoms];
+    truths.iter().for_each(|&atom| set[atom] = 2);
+    set
+}
+
+/// The true atoms of a candidate, ascending.
+pub fn true_atoms(set: &[u8]) -> impl Iterator<Item = usize> + '_ {
+    (0..set.len()).filter(|&atom| set[atom] == 2)
+}
+
+/// So many atoms out of `atoms` that lie as far apart as they can: the first, the last and others between them.
+pub fn far_apart(atoms: usize, truths: usize) -> Vec<usize> {
+    let gaps = truths.max(2) - 1;
+    (0..truths).map(|own| own * (atoms - 1) / gaps).collect()
 }
 
 /// A random interpretation of `atoms` bytes.

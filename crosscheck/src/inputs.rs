@@ -2,7 +2,7 @@
 
 use crate::calls::{Answer, Call, Calls};
 use crate::generate::growth::{Growth, Style, MOSTLY_IMPLICATIONS};
-use crate::lists::{Book, Rule};
+use crate::lists::{Book, Program, Rule};
 use crate::node::Node;
 use crate::random::Random;
 use crate::{formula, generate};
@@ -48,10 +48,13 @@ pub fn all() -> Vec<Input> {
         translation("the longest: 6,522 rules", &longest(128)),
         Input::new(SMALL, Call::TestTheory, small.image(), vec![2, 0, 0], 0),
         candidate("1,024 nodes, 16 atoms true", 1024, 16),
+        scattered("1,024 atoms and nodes, 16 true", 1024),
+        scattered("1,024 atoms, 32 nodes, 16 true", 32),
         Input::new(SMALL, Call::ListSets, small.image(), vec![], 2),
         listing(),
         Input::new(SMALL_FLAT, Call::TestProgram, small.flat().image(), extended(&small, &[2, 0, 0]), 0),
-        flat_candidate(),
+        flat_candidate("1,016 rules, 16 atoms true", generate::set(&mut Random::new(17), 200, 16), 1000),
+        flat_candidate("3,072 atoms, 116 rules, 16 true", scattered_set(3072), 100),
     ]);
     inputs.sort_by_key(|input| input.call as usize);
     inputs
@@ -103,9 +106,26 @@ fn mixed(nodes: usize, roots: usize, pairs: usize) -> (Book, Vec<u8>) {
     (book, reading)
 }
 
-/// A candidate that is an answer set, so that no subset of it ends the test early.
+/// A candidate that is an answer set, so that no subset of it ends the test early. Only four atoms more are not true.
 pub fn candidate(name: &'static str, nodes: usize, truths: usize) -> Input {
-    let (mut book, set) = generate::facts(&mut Random::new(11), truths + 4, nodes, truths, 0);
+    let random = &mut Random::new(11);
+    let set = generate::set(random, truths + 4, truths);
+    facts(name, random, set, nodes)
+}
+
+/// The same where sixteen atoms are true among the most that a theory has.
+fn scattered(name: &'static str, nodes: usize) -> Input {
+    facts(name, &mut Random::new(19), scattered_set(1024), nodes)
+}
+
+/// Sixteen true atoms all over so many.
+fn scattered_set(atoms: usize) -> Vec<u8> {
+    generate::set_of(atoms, &generate::far_apart(atoms, 16))
+}
+
+/// The test of a candidate whose atoms are all facts.
+fn facts(name: &'static str, random: &mut Random, set: Vec<u8>, nodes: usize) -> Input {
+    let mut book = generate::facts_of(random, &set, nodes, 0);
     book.roots.reverse();
     Input::new(name, Call::TestTheory, book.image(), set, 0)
 }
@@ -118,15 +138,13 @@ fn listing() -> Input {
     Input::new("12 atoms, 64 nodes", Call::ListSets, book.image(), vec![], 8192)
 }
 
-/// Sixteen facts after a thousand rules that always hold, so that every subset is tried on all of them.
-fn flat_candidate() -> Input {
-    let (mut program, set) = generate::fact_program(&mut Random::new(17), 200, 0, 16);
-    let facts = std::mem::take(&mut program.rules);
-    let outside = (0..200).find(|&atom| set[atom] == 0).expect("an atom outside");
-    let idle = Rule::new(&[0], &[outside], &[1]);
-    program.rules = vec![idle; 1000];
-    program.rules.extend(facts);
-    Input::new("1,016 rules, 16 atoms true", Call::TestProgram, program.image(), set, 0)
+/// The true atoms as facts after so many rules that always hold, so that every subset is tried on all of these.
+fn flat_candidate(name: &'static str, set: Vec<u8>, always: usize) -> Input {
+    let outside = (0..set.len()).find(|&atom| set[atom] == 0).expect("an atom outside");
+    let mut rules = vec![Rule::new(&[0], &[outside], &[1]); always];
+    rules.extend(generate::true_atoms(&set).map(|atom| Rule::new(&[atom], &[], &[])));
+    let program = Program { atoms: 0, all: set.len(), rules };
+    Input::new(name, Call::TestProgram, program.image(), set, 0)
 }
 
 #[cfg(test)]
@@ -152,6 +170,24 @@ mod tests {
             assert_eq!(reference::check_theory(&input.image).number, 0, "{}", input.name);
         }
         assert_eq!(get2(&listing().image, 2), 64);
+    }
+
+    /// Those that are not too long are run, too: their candidates are answer sets.
+    #[test]
+    fn sixteen_true_atoms_all_over() {
+        let inputs = all();
+        // What stands at bytes 2 and 4 are nodes and roots of a theory, all atoms and rules of a program.
+        for (name, atoms, sizes, run) in [
+            ("1,024 atoms and nodes, 16 true", 1024, [1024, 17], false),
+            ("1,024 atoms, 32 nodes, 16 true", 1024, [32, 17], true),
+            ("3,072 atoms, 116 rules, 16 true", 3072, [3072, 116], true),
+        ] {
+            let input = inputs.iter().find(|input| input.name == name).expect("an input of this name");
+            assert_eq!([get2(&input.image, 2), get2(&input.image, 4)], sizes, "{name}");
+            let truths: Vec<usize> = generate::true_atoms(&input.reading).collect();
+            assert_eq!((input.reading.len(), truths.len(), truths[0], truths[15]), (atoms, 16, 0, atoms - 1));
+            assert!(!run || input.run(&reference::CALLS, &mut []).result == 1, "{name}");
+        }
     }
 
     #[test]

@@ -4,6 +4,7 @@
 //! so; then both sides must also agree with that.
 
 mod books;
+mod candidates;
 mod examples;
 mod labels;
 mod pairs;
@@ -23,7 +24,7 @@ pub struct Effort {
     /// How often each two rows are broken, for each call.
     pub damages: usize,
     pub mutations: usize,
-    /// Of the small books that are listed in full, one in so many.
+    /// Of the small books that are listed in full, and of the false atoms beside a candidate, one in so many.
     pub stride: usize,
     pub small_books: usize,
     pub large_books: usize,
@@ -33,6 +34,8 @@ pub struct Effort {
     pub labelled_books: usize,
     /// Small books with pairs, all of whose readings and sets are tried.
     pub paired_books: usize,
+    /// Of the candidates of which many atoms are true, one in so many.
+    pub many_truths: usize,
     /// Books with pairs for the solver, and as many without.
     pub solver_books: usize,
 }
@@ -48,6 +51,7 @@ impl Effort {
         large_programs: 500,
         labelled_books: 2_000,
         paired_books: 2_000,
+        many_truths: 11,
         solver_books: 400,
     };
     pub const SHORT: Effort = Effort {
@@ -60,6 +64,7 @@ impl Effort {
         large_programs: 10,
         labelled_books: 8,
         paired_books: 20,
+        many_truths: 211,
         solver_books: 10,
     };
 }
@@ -67,7 +72,7 @@ impl Effort {
 type Part = fn(&mut Suite, &Effort) -> Checked<()>;
 
 /// The parts by name. The solver is not among them, since it is not everywhere.
-pub const PARTS: [(&str, Part); 12] = [
+pub const PARTS: [(&str, Part); 13] = [
     ("worked examples", |suite, _| suite.worked_examples()),
     ("broken nodes", |suite, _| suite.broken_nodes()),
     ("broken pairs", |suite, _| suite.broken_pairs()),
@@ -80,6 +85,7 @@ pub const PARTS: [(&str, Part); 12] = [
     ("random programs", |suite, effort| suite.random_programs(effort.small_programs, effort.large_programs)),
     ("labels of small books", |suite, effort| suite.labels(effort.labelled_books)),
     ("small books with pairs", |suite, effort| suite.paired_books(effort.paired_books)),
+    ("candidates and their subsets", |suite, effort| suite.candidates(effort.many_truths, effort.stride)),
 ];
 
 /// Two implementations and the random numbers that drive their comparison.
@@ -120,8 +126,13 @@ impl<'c> Suite<'c> {
 
     /// Runs a call that must be accepted with the result yes.
     fn yes(&mut self, call: Call, image: &[u8], reading: &[u8]) -> Checked<()> {
+        self.gives(call, image, reading, 1)
+    }
+
+    /// Runs a call that must be accepted with this result.
+    fn gives(&mut self, call: Call, image: &[u8], reading: &[u8], expected: usize) -> Checked<()> {
         let result = self.accepted(call, image, reading)?;
-        demand(result == 1, call, image, || format!("with {} the result should be 1", hex(reading)))
+        demand(result == expected, call, image, || format!("with {} the result should be {expected}", hex(reading)))
     }
 
     /// Runs a call that writes, and is accepted in `room` bytes; gives a copy of what it wrote.
@@ -186,7 +197,7 @@ fn demand(holds: bool, call: Call, image: &[u8], what: impl FnOnce() -> String) 
 }
 
 fn truths(candidate: &[u8]) -> usize {
-    candidate.iter().filter(|&&byte| byte == 2).count()
+    generate::true_atoms(candidate).count()
 }
 
 /// The sets of a listing.

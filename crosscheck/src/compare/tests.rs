@@ -6,6 +6,7 @@ use crate::lists::get2;
 use crate::reference;
 use crate::suite::{Effort, Suite, PARTS};
 
+mod candidates;
 mod pairs;
 mod unused;
 

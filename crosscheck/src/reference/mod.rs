@@ -249,22 +249,30 @@ impl Truths {
 
 /// Whether `truths` is an answer set of what `satisfied` judges. `reading` comes in as zeros.
 fn is_answer_set(reading: &mut [u8], truths: &[usize], mut satisfied: impl FnMut(&[u8]) -> bool) -> bool {
-    for &atom in truths {
-        reading[atom] = 2;
-    }
+    truths.iter().for_each(|&atom| reading[atom] = 2);
     if !satisfied(reading) {
         return false;
     }
-    let whole = (1u32 << truths.len()) - 1;
-    for subset in 0..whole {
-        for (bit, &atom) in truths.iter().enumerate() {
-            reading[atom] = if subset >> bit & 1 == 1 { 2 } else { 1 };
-        }
+    truths.iter().for_each(|&atom| reading[atom] = 1);
+    for _proper_subset in 1..1u32 << truths.len() {
         if satisfied(reading) {
             return false;
         }
+        step(reading, truths);
     }
     true
+}
+
+/// Goes on to the next subset, as if one were added to a binary number: `truths` are its places, the lowest first, 1
+/// stands for its digit 0 and 2 for its digit 1.
+fn step(reading: &mut [u8], truths: &[usize]) {
+    for &atom in truths {
+        if reading[atom] == 1 {
+            reading[atom] = 2;
+            return;
+        }
+        reading[atom] = 1;
+    }
 }
 
 #[cfg(test)]

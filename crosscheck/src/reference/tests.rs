@@ -5,6 +5,7 @@ use crate::calls::Call;
 use crate::lists::{Book, Program, Rule};
 use crate::{formula, worked};
 
+mod candidates;
 mod pairs;
 mod unused;
 
