@@ -1,7 +1,7 @@
 # Sourced by what links the library's archive, which is for x86-64 Linux. Sets `cc`, `rustc` (with its target's words),
-# `run`, what a linked program is started with, and `emulator`. On another processor these are Debian's cross compiler, its
-# Rust with the x86-64 library, and an emulator; those that are missing are installed where that can be done. Ends the
-# caller with status 1 and a line that names what is missing, where something still is.
+# `run`, what a linked program is started with, `emulator`, and `objdump`. On another processor these are Debian's cross
+# compiler with its tools, its Rust with the x86-64 library, and an emulator; those that are missing are installed where
+# that can be done. Ends the caller with status 1 and a line that names what is missing, where something still is.
 
 x86_64_rustc() { # the first rustc on the path that has the x86-64 library
     local each
@@ -40,9 +40,11 @@ emulator=(qemu-x86_64 -cpu max,-erms)
 if [ "$(uname -m)" = x86_64 ]; then
     cc=(cc)
     rustc=(rustc)
+    objdump=objdump
     run=()
 else
     cc=(x86_64-linux-gnu-gcc)
     rustc=("$(x86_64_rustc)" --target x86_64-unknown-linux-gnu -C linker=x86_64-linux-gnu-gcc)
+    objdump=x86_64-linux-gnu-objdump
     run=("${emulator[@]}")
 fi

@@ -7,6 +7,7 @@
 //! * [`suite`]: the inputs on which the two sides are compared.
 //! * [`lists`]: books and programs as lists, with slow definitions that share no code with the reference.
 //! * [`inputs`], [`tables`]: what the benchmark and the instruction counter measure, and what they print.
+//! * [`frames`]: how deep the library's compiled code can go into the stack.
 
 #![deny(unsafe_code)]
 
@@ -14,6 +15,7 @@ pub mod calls;
 pub mod compare;
 pub mod damage;
 pub mod formula;
+pub mod frames;
 pub mod generate;
 pub mod inputs;
 #[cfg(feature = "library")]
