@@ -10,12 +10,19 @@ use lib.ListN.{length, getD, set}
 use lib.Seq.{getD-at, set-at}
 use borrow.Author.Tests.{lt-ltb}
 use Rattle.wire.specs.Wire.{allBelow}
+use Rattle.wire.specs.Sequence.{upTo}
 use Rattle.logic.specs.Value.{number}
 use Rattle.logic.specs.Atoms.{Atoms, mark}
 use Rattle.logic.proofs.Bools.{&&-join}
 use Rattle.stable.specs.Subset.{odd, subset, lowered, placesFrom, placesOf}
 use Rattle.stable.proofs.Digits.{digit-odd}
 use Rattle.stable.proofs.Subsets.{size}
+
+-- The places of {0, 2} among three atoms, and the readings of its subsets in turn.
+pub in-turn : let T = true ∷ false ∷ true ∷ [] in
+    (placesOf T ≡ 0 ∷ 2 ∷ []) × (upTo (lowered T) 4 ≡ (1 ∷ 0 ∷ 1 ∷ []) ∷ (2 ∷ 0 ∷ 1 ∷ []) ∷ (1 ∷ 0 ∷ 2 ∷ []) ∷ (2 ∷ 0 ∷ 2 ∷ []) ∷ [])
+unfolding placesFrom lowered subset upTo
+in-turn = (refl, refl)
 
 -- The byte of an atom of the set, and the number that is left for the atoms behind it.
 lowered-atom : (T : Atoms) (m : ℕ) → lowered (true ∷ T) m ≡ (1 + m % 2) ∷ lowered T (m / 2)

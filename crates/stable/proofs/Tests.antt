@@ -7,6 +7,7 @@ use Prim.Native.Nat.{ℕ, _+_, _-_, _^_, _≤_, _<_}
 use native.Mathlib.Omega.{arith}
 use lib.ListN.{length}
 use lib.Pow.{pow-pos}
+use Rattle.refusal.specs.Limits.{mostB}
 use Rattle.refusal.specs.Table.{none}
 use Rattle.refusal.specs.Rows.{countTrue}
 use Rattle.refusal.proofs.Rows.{none-argumentRows}
@@ -39,6 +40,13 @@ module _ (program : Bool) (image candidate : List ℕ) (t : Testable program ima
       few : (program : Bool) → none (imageRows program image) ≡ true → atomsOf program image ≤ mostBytes program
       few true h = none-programRows image h .inside .size
       few false h = accepted image h .header .few-atoms
+
+  pub testable-small : length candidate ≤ mostB
+  testable-small = omega (arith, testable-short, most program)
+    where
+      most : (program : Bool) → mostBytes program ≤ mostB
+      most true = omega arith
+      most false = omega arith
 
   -- The candidate is the reading of the full subset, and the steps from it go through the smaller readings from the empty subset on.
   pub full-reading : candidate ≡ lowered (setOf candidate) (2 ^ countTrue candidate - 1)

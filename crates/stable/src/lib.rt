@@ -5,7 +5,7 @@ ghost use mathlib.Core.Bool.{true};
 ghost use Prim.Native.Nat.{ℕ, _+_, _*_, _^_, _≤_, _<_};
 ghost use lib.ListN.{length, take};
 ghost use Rattle.wire.specs.Wire.{over, allBelow};
-ghost use Rattle.refusal.specs.Limits.{mostTrue};
+ghost use Rattle.refusal.specs.Limits.{mostB, mostTrue};
 ghost use Rattle.refusal.specs.Table.{none, answer};
 ghost use Rattle.refusal.specs.Rows.{candidateRows, countTrue};
 ghost use Rattle.logic.specs.Formula.{readingOf, satisfies};
@@ -45,8 +45,9 @@ fn two_to(k: usize) -> usize
 }
 
 // Writes where the true atoms of a candidate stand over the start of `places`, and gives how many they are.
-fn places_of(candidate: &[u8], places: &mut [usize; refusal::MOST_TRUE]) -> usize
+fn places_of(candidate: &[u8], places: &mut [u16; refusal::MOST_TRUE]) -> usize
     requires { ⌜ Candidate (now candidate) ⌝ }
+    requires { ⌜ length (now candidate) ≤ mostB ⌝ }
     requires { ⌜ countTrue (now candidate) ≤ mostTrue ⌝ }
     requires { ⌜ length (now places) ≡ mostTrue ⌝ }
     ensures { λ r. ⌜ take r (now (places .exit)) ≡ placesOf (setOf (now (candidate .entry))) ⌝ }
@@ -57,7 +58,7 @@ fn places_of(candidate: &[u8], places: &mut [usize; refusal::MOST_TRUE]) -> usiz
     let mut i = 0;
     while i < candidate.len() {
         if candidate[i] == 2 {
-            places[count] = i;
+            places[count] = i as u16;
             count += 1;
         }
         i += 1;
@@ -66,13 +67,13 @@ fn places_of(candidate: &[u8], places: &mut [usize; refusal::MOST_TRUE]) -> usiz
 }
 
 // Steps a reading to that of the next subset: the first atom that the subset leaves out joins it, and those before it leave. After the full subset comes the empty one.
-fn step(places: &[usize], reading: &mut [u8])
+fn step(places: &[u16], reading: &mut [u8])
     requires { ⌜ allBelow (length (now reading)) (now places) ≡ true ⌝ }
     ensures { λ _. ⌜ ((T : Atoms) (m : ℕ) → now (places .entry) ≡ placesOf T → now (reading .entry) ≡ lowered T m → now (reading .exit) ≡ lowered T (m + 1)) ⌝ }
 {
     let mut k = 0;
     while k < places.len() {
-        let at = places[k];
+        let at = places[k] as usize;
         if reading[at] == 1 {
             reading[at] = 2;
             return;

@@ -16,7 +16,7 @@ use Rattle.stable.specs.Image.{mostValues, formulasOf, Testable}
 use Rattle.stable.specs.Subset.{setOf, lowered}
 use Rattle.stable.proofs.Candidates.{length-setOf}
 use Rattle.stable.proofs.Steps.{placesFrom-below}
-use Rattle.stable.proofs.Tests.{satisfiesLowered, testable-length, testable-candidate, full-reading, stepped, answer-unsatisfied, answer-iff, answer-smaller}
+use Rattle.stable.proofs.Tests.{satisfiesLowered, testable-length, testable-candidate, testable-small, full-reading, stepped, answer-unsatisfied, answer-iff, answer-smaller}
 use Rattle.stable.proofs.is_answer_set.Statement.{statement}
 use Rattle.stable.proofs.is_answer_set.Tie as tie
 
@@ -49,7 +49,7 @@ returns c = sym (answer-unsatisfied _ _ _ (c .before .before .before .before .be
 
 places-of-requires : tie.Need-places-of-requires Inv-loop μ-loop
 places-of-requires c κs =
-    let tested = c .before .before .before .before .before .before .before .before .before .before .before .pre .0 in (testable-candidate _ _ _ tested, (tested .few, refl))
+    let tested = c .before .before .before .before .before .before .before .before .before .before .before .pre .0 in (testable-candidate _ _ _ tested, (testable-small _ _ _ tested, (tested .few, refl)))
 
 two-to-requires : tie.Need-two-to-requires Inv-loop μ-loop
 two-to-requires c κs =

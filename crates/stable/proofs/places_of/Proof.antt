@@ -45,7 +45,10 @@ room c two =
     let candidate = now (start .args .candidate) in
     let i = c .before .loop .i in
     let next = rw (eq-eqb (getD candidate i 0) 2 two) at (places-at candidate (start .pre .0) i (c .loop-test .taken)) in
-    omega (arith, counted (c .before), ap length next, start .pre .1 .0)
+    omega (arith, counted (c .before), ap length next, start .pre .1 .1 .0)
+
+cast-places : tie.Need-cast-places Inv-loop μ-loop
+cast-places c = search needs
 
 mul-places : tie.Need-mul-places Inv-loop μ-loop
 mul-places c = omega (arith, room (c .before .before) (c .if1 .taken))
@@ -100,6 +103,7 @@ places-of-spec =
     μ-loop
     loop-holds
     shared-slice-read-if1
+    cast-places
     mul-places
     element-write-places
     add-count

@@ -33,6 +33,9 @@ shared-slice-read-at c = search needs
 inside : (c : tie.In-loop Inv-loop μ-loop) → getD (now (c .before .before .args .places)) (c .before .loop .k) 0 < length (c .before .loop .reading)
 inside c = omega (arith, allBelow-at (length (now (c .before .before .args .reading))) (now (c .before .before .args .places)) (c .before .before .pre) (c .before .loop .k) (c .loop-test .taken), c .before .loop .inv .2)
 
+cast-at : tie.Need-cast-at Inv-loop μ-loop
+cast-at c = record { fits = omega (arith, inside (c .before), c .before .before .loop .inv .2, c .before .before .before .good) }
+
 slice-read-if1 : tie.Need-slice-read-if1 Inv-loop μ-loop
 slice-read-if1 c = inside (c .before .before)
 
@@ -83,6 +86,7 @@ step-spec =
     loop-holds
     mul-at
     shared-slice-read-at
+    cast-at
     slice-read-if1
     slice-write-reading
     same-length
