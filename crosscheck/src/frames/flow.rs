@@ -6,9 +6,8 @@ use std::collections::BTreeMap;
 
 /// How far below `%rsp` a function may use the stack without moving it.
 const RED_ZONE: i64 = 128;
-/// The registers whose depths are followed, with the names of their lower parts.
+/// The register whose depth is followed, with the names of its lower parts.
 const STACK: [&str; 4] = ["%rsp", "%esp", "%sp", "%spl"];
-const FRAME: [&str; 4] = ["%rbp", "%ebp", "%bp", "%bpl"];
 /// Instructions of two operands that only read the first.
 const READING: [&str; 4] = ["add", "cmp", "mov", "sub"];
 /// How the words begin that move `%rsp` without naming it, go elsewhere or stand for no instruction. Those of them that
@@ -29,85 +28,75 @@ pub struct Entry<'t> {
     pub callee: &'t str,
 }
 
-/// The depth of `%rsp`, and that of `%rbp` as long as it is known.
-#[derive(Clone, Copy)]
-struct Depths {
-    stack: i64,
-    frame: Option<i64>,
-}
-
 struct Walk<'w, 't> {
     listing: &'w Listing<'t>,
     function: &'w Function<'t>,
-    /// The depths with which each instruction is reached.
-    seen: BTreeMap<i64, Depths>,
+    /// The depth with which each instruction is reached.
+    seen: BTreeMap<i64, i64>,
     /// The instructions that are still to be followed.
-    open: Vec<(i64, Depths)>,
+    open: Vec<(i64, i64)>,
     own: Own<'t>,
 }
 
 /// Follows a function from its first instruction. Each instruction has to be reached, and with one depth of `%rsp`.
 pub fn own<'t>(listing: &Listing<'t>, name: &str) -> Result<Own<'t>, String> {
     let function = &listing.functions[name];
-    let open = vec![(function.start(), Depths { stack: 0, frame: None })];
+    let open = vec![(function.start(), 0)];
     let own = Own { deepest: 0, calls: Vec::new() };
     let mut walk = Walk { listing, function, seen: BTreeMap::new(), open, own };
-    while let Some((at, depths)) = walk.open.pop() {
-        walk.reach(at, depths).map_err(|why| format!("{name}, {at:x}: {why}"))?;
+    while let Some((at, depth)) = walk.open.pop() {
+        walk.reach(at, depth).map_err(|why| format!("{name}, {at:x}: {why}"))?;
     }
     let left_out = |(at, instruction): &(&i64, &Instruction)| !walk.seen.contains_key(at) && !instruction.fills();
     if let Some((at, _)) = function.code.iter().find(left_out) {
         return Err(format!("{name}, {at:x}: no path that is followed comes here"));
     }
     let below = if function.roams() { RED_ZONE } else { 0 };
-    let deepest = walk.seen.values().map(|depths| depths.stack + below).max();
+    let deepest = walk.seen.values().map(|depth| depth + below).max();
     Ok(Own { deepest: deepest.unwrap_or(0).max(walk.own.deepest), ..walk.own })
 }
 
 impl<'t> Walk<'_, 't> {
-    /// Comes to an instruction, and follows it unless that has been done with as little known of `%rbp`.
-    fn reach(&mut self, at: i64, mut depths: Depths) -> Result<(), String> {
-        match self.seen.get(&at) {
-            Some(before) if before.stack != depths.stack => return Err("reached with two depths of %rsp".into()),
-            Some(before) if before.frame.is_none() || before.frame == depths.frame => return Ok(()),
-            Some(_) => depths.frame = None,
-            None => {}
+    /// Comes to an instruction, and follows it unless that has been done.
+    fn reach(&mut self, at: i64, depth: i64) -> Result<(), String> {
+        match self.seen.insert(at, depth) {
+            None => self.follow(at, depth),
+            Some(before) if before == depth => Ok(()),
+            Some(_) => Err("reached with two depths of %rsp".into()),
         }
-        self.seen.insert(at, depths);
-        self.follow(at, depths)
     }
 
-    fn follow(&mut self, at: i64, depths: Depths) -> Result<(), String> {
+    fn follow(&mut self, at: i64, depth: i64) -> Result<(), String> {
         let Instruction { word, operands } = self.function.code.get(&at).ok_or("there is no instruction")?;
         match (*word, &operands[..]) {
-            ("ret", []) if depths.stack == 0 => Ok(()),
-            ("ret", []) => Err(format!("returns with {} bytes on the stack", depths.stack)),
+            ("ret", []) if depth == 0 => Ok(()),
+            ("ret", []) => Err(format!("returns with {depth} bytes on the stack")),
             ("ud2", []) => Ok(()),
             ("call", [to]) => {
                 let target = self.target(at, to)?;
-                self.enter(depths.stack, ADDRESS, target)?;
-                self.go_on(at, depths)
+                self.enter(depth, ADDRESS, target)?;
+                self.go_on(at, depth)
             }
-            ("jmp", [register]) if register.starts_with("*%") => self.jump_by_table(depths),
-            ("jmp", [to]) => self.jump(at, to, depths),
+            ("jmp", [register]) if register.starts_with("*%") => self.jump_by_table(depth),
+            ("jmp", [to]) => self.jump(at, to, depth),
             (word, [to]) if word.starts_with('j') || word.starts_with("loop") => {
-                self.jump(at, to, depths)?;
-                self.go_on(at, depths)
+                self.jump(at, to, depth)?;
+                self.go_on(at, depth)
             }
             (word, operands) => {
                 let unknown = || format!("not known: {word} {}", operands.join(","));
                 for operand in operands {
-                    self.own.deepest = self.own.deepest.max(depths.stack + below(operand).ok_or_else(unknown)?);
+                    self.own.deepest = self.own.deepest.max(depth + below(operand).ok_or_else(unknown)?);
                 }
-                let after = depths.after(word, operands).filter(|after| after.stack >= 0);
+                let after = after(depth, word, operands).filter(|depth| *depth >= 0);
                 self.go_on(at, after.ok_or_else(unknown)?)
             }
         }
     }
 
-    fn go_on(&mut self, at: i64, depths: Depths) -> Result<(), String> {
+    fn go_on(&mut self, at: i64, depth: i64) -> Result<(), String> {
         let (next, _) = self.function.code.range(at + 1..).next().ok_or("goes on past its end")?;
-        self.open.push((*next, depths));
+        self.open.push((*next, depth));
         Ok(())
     }
 
@@ -121,22 +110,22 @@ impl<'t> Walk<'_, 't> {
     }
 
     /// A jump within the function, or to another one that returns in its stead.
-    fn jump(&mut self, at: i64, shown: &str, depths: Depths) -> Result<(), String> {
+    fn jump(&mut self, at: i64, shown: &str, depth: i64) -> Result<(), String> {
         let Function { section, code } = self.function;
         match self.target(at, shown)? {
-            Target::Inside((other, to)) if other == *section && code.contains_key(&to) => self.open.push((to, depths)),
-            target => self.enter(depths.stack, 0, target)?,
+            Target::Inside((other, to)) if other == *section && code.contains_key(&to) => self.open.push((to, depth)),
+            target => self.enter(depth, 0, target)?,
         }
         Ok(())
     }
 
     /// A jump to an address in a register: to one of the places that the function's tables hold.
-    fn jump_by_table(&mut self, depths: Depths) -> Result<(), String> {
+    fn jump_by_table(&mut self, depth: i64) -> Result<(), String> {
         let targets = self.listing.tables(self.function);
         if targets.is_empty() {
             return Err("an indirect jump without a table".into());
         }
-        self.open.extend(targets.into_iter().map(|to| (to, depths)));
+        self.open.extend(targets.into_iter().map(|to| (to, depth)));
         Ok(())
     }
 
@@ -151,48 +140,22 @@ impl<'t> Walk<'_, 't> {
     }
 }
 
-impl Depths {
-    /// The depths after an instruction that goes on to the next one; nothing where that of `%rsp` is not known.
-    fn after(self, word: &str, operands: &[&str]) -> Option<Self> {
-        let moved = |stack| Some(Depths { stack, ..self });
-        match (word, operands) {
-            ("push", [pushed]) if !pushed.starts_with('%') || whole(pushed) => moved(self.stack + ADDRESS),
-            ("pop", ["%rbp"]) => Some(Depths { stack: self.stack - ADDRESS, frame: None }),
-            ("pop", [register]) if whole(register) && *register != "%rsp" => moved(self.stack - ADDRESS),
-            ("sub", [amount, "%rsp"]) => moved(self.stack + number(amount.strip_prefix('$')?)?),
-            ("add", [amount, "%rsp"]) => moved(self.stack - number(amount.strip_prefix('$')?)?),
-            ("and", [mask, "%rsp"]) => {
-                let unit = number(mask.strip_prefix('$')?)?.wrapping_neg();
-                (unit.count_ones() == 1).then(|| Depths { stack: self.stack + unit - 1, ..self })
-            }
-            ("lea", [place, "%rsp"]) => {
-                let (offset, register) = place.strip_suffix(')')?.split_once('(')?;
-                moved(self.of(register)? - number(offset)?)
-            }
-            ("mov", ["%rsp", "%rbp"]) => Some(Depths { frame: Some(self.stack), ..self }),
-            ("mov", [register, "%rsp"]) => moved(self.of(register)?),
-            ("leave", []) => Some(Depths { stack: self.frame? - ADDRESS, frame: None }),
-            _ => self.after_other(word, operands),
-        }
+/// The depth after an instruction that goes on to the next one; nothing where that is not known.
+fn after(depth: i64, word: &str, operands: &[&str]) -> Option<i64> {
+    match (word, operands) {
+        ("push", [pushed]) if !pushed.starts_with('%') || whole(pushed) => Some(depth + ADDRESS),
+        ("pop", [register]) if whole(register) && *register != "%rsp" => Some(depth - ADDRESS),
+        ("sub", [amount, "%rsp"]) => Some(depth + number(amount.strip_prefix('$')?)?),
+        ("add", [amount, "%rsp"]) => Some(depth - number(amount.strip_prefix('$')?)?),
+        _ => (!moves(word, operands)).then_some(depth),
     }
+}
 
-    fn of(self, register: &str) -> Option<i64> {
-        match register {
-            "%rsp" => Some(self.stack),
-            "%rbp" => self.frame,
-            _ => None,
-        }
-    }
-
-    /// The depths after an instruction that is not expected to move `%rsp`.
-    fn after_other(self, word: &str, operands: &[&str]) -> Option<Self> {
-        let read = if READING.contains(&word) && operands.len() == 2 { 1 } else { 0 };
-        let changes = |names: &[&str]| operands[read..].iter().any(|operand| names.contains(operand));
-        if changes(&STACK) || word != "popcnt" && UNKNOWN.iter().any(|beginning| word.starts_with(beginning)) {
-            return None;
-        }
-        Some(Depths { frame: self.frame.filter(|_| !changes(&FRAME)), ..self })
-    }
+/// Whether an instruction may move `%rsp` in another way.
+fn moves(word: &str, operands: &[&str]) -> bool {
+    let read = if READING.contains(&word) && operands.len() == 2 { 1 } else { 0 };
+    operands[read..].iter().any(|operand| STACK.contains(operand))
+        || word != "popcnt" && UNKNOWN.iter().any(|beginning| word.starts_with(beginning))
 }
 
 /// Whether an operand is a register of eight bytes.

@@ -119,7 +119,7 @@ fn takes_the_deepest_branch_and_not_the_sum() {
         "je 28; push %rbx; sub $0x20,%rsp; add $0x20,%rsp; jmp 38; push %rbx; nop; pop %rbx; ret; nopw 0x0(%rax)",
         "rulebook_f 48",
     );
-    takes("push $0x5; push 0x8(%rax); lea -0x70(%rsp),%rsp; nop; lea 0x80(%rsp),%rsp; ret", "rulebook_f 136");
+    takes("push $0x5; push 0x8(%rax); sub $0x70,%rsp; nop; add $0x80,%rsp; ret", "rulebook_f 136");
     takes("add $0xffffffffffffff80,%rsp; nop; sub $0xffffffffffffff80,%rsp; ret", "rulebook_f 136");
 }
 
@@ -147,18 +147,6 @@ fn counts_what_is_used_below_the_pointer() {
     takes("mov %rsp,%rdi; push %rbx; pop %rbx; ret", "rulebook_f 144");
     takes("call 8 -> g; mov %al,0x8(%rsp,%rcx,1); ret", "rulebook_f 8, g 8");
     takes("call 8 -> g; mov %al,-0x8(%rsp,%rcx,1); ret", "rulebook_f 136");
-}
-
-#[test]
-fn follows_a_frame_pointer() {
-    let aligned = "push %rbp; mov %rsp,%rbp; push %rbx; and $0xffffffffffffffe0,%rsp; sub $0x40,%rsp; call 30 -> g; \
-                   lea -0x8(%rbp),%rsp; pop %rbx; pop %rbp; ret";
-    takes(aligned, "rulebook_f 119, g 8");
-    takes("push %rbp; mov %rsp,%rbp; sub $0x20,%rsp; mov %rbp,%rdi; call 28 -> g; leave; ret", "rulebook_f 48, g 8");
-    takes("push %rbp; mov %rsp,%rbp; inc %rbp; jne 10; call 28 -> g; pop %rbp; ret", "rulebook_f 16, g 8");
-    let changed = "push %rbp; mov %rsp,%rbp; je 28; inc %rbp; jmp 10; mov %rbp,%rsp; pop %rbp; ret";
-    refused(changed, "28: not known: mov %rbp,%rsp");
-    takes(&changed.replace("inc %rbp", "cmp %rbp,%rax"), "rulebook_f 144");
 }
 
 /// Two tables in one section, the second at its eighth byte.
@@ -243,7 +231,7 @@ fn refuses_recursion() {
 fn refuses_what_moves_the_pointer_in_another_way() {
     let named = "mov %rax,%rsp; mov %rbp,%rsp; xchg %rsp,%rax; xchg %rax,%rsp; mov $0x8,%spl; add $0x8,%esp; \
                  sub %rax,%rsp; add (%rax),%rsp; and $0x10,%rsp; and $0xffffffffffffffe1,%rsp; lea 0x8(%rax),%rsp; \
-                 lea (%rsp,%rax,1),%rsp; inc %rsp; mov %rax,%ss:-0x8(%rsp)";
+                 lea (%rsp,%rax,1),%rsp; lea -0x70(%rsp),%rsp; and $0xffffffffffffffe0,%rsp; inc %rsp; mov %rax,%ss:-0x8(%rsp)";
     let unnamed = "pop %rsp; pop %ax; pop (%rax); push %ax; push %r8w; push %fs; pushw $0x8; pushf ; popf ; leave ; \
                    enter $0x8,$0x0; ret $0x8; lret ; iretq ; int $0x80; syscall ; call ; (bad) ; .byte 0x6";
     for other in named.split("; ").chain(unnamed.split("; ")) {

@@ -57,43 +57,41 @@ impl Step<'_> {
     }
 }
 
-/// Ways to make the reading of a step; each says whether the reading is looked at.
-const WAYS: [fn(&mut Step) -> bool; 13] = [
-    |step| step.right(),
-    |step| step.counted(1),
-    |step| step.counted(2),
-    |step| step.counted(8),
-    |step| step.counted(15),
-    // The places below a carry stay as they are.
-    |step| step.number < step.truths.len() && step.put((1 << step.number) - 1),
-    |step| step.number + 1 != step.proper_subsets() && step.right(),
-    |step| step.number > 0 && step.right(),
-    |step| step.number == step.proper_subsets() || step.right(),
-    |step| step.right() && step.raise(step.first_false(), 1),
-    |step| step.right() && step.raise(step.last_false(), 2),
-    // A false atom as one more place.
-    |step| match step.number.checked_sub(step.proper_subsets()) {
+/// A way to make the reading of a step; it says whether the reading is looked at.
+trait Way {
+    const MAKE: fn(&mut Step) -> bool;
+}
+
+macro_rules! ways {
+    ($($name:ident: $make:expr;)*) => {
+        $(struct $name;
+        impl Way for $name {
+            const MAKE: fn(&mut Step) -> bool = $make;
+        })*
+    };
+}
+
+ways! {
+    Right: |step| step.right();
+    NoCarry: |step| step.counted(1);
+    CarryOverOnePlace: |step| step.counted(2);
+    EightPlaces: |step| step.counted(8);
+    FifteenPlaces: |step| step.counted(15);
+    LowerPlacesStay: |step| step.number < step.truths.len() && step.put((1 << step.number) - 1);
+    NotTheOneBeforeTheFull: |step| step.number + 1 != step.proper_subsets() && step.right();
+    FromTheSecondOn: |step| step.number > 0 && step.right();
+    TheFullOneToo: |step| step.number == step.proper_subsets() || step.right();
+    FirstFalseAtomRaised: |step| step.right() && step.raise(step.first_false(), 1);
+    LastFalseAtomRaised: |step| step.right() && step.raise(step.last_false(), 2);
+    OnePlaceMore: |step| match step.number.checked_sub(step.proper_subsets()) {
         Some(subset) => step.put(subset) && step.raise(step.first_false(), 1),
         None => step.right(),
-    },
-    |step| step.with(&step.truths.iter().map(|atom| atom % 256).collect::<Vec<_>>()),
-];
-const RIGHT: usize = 0;
-const NO_CARRY: usize = 1;
-const A_CARRY_OVER_ONE_PLACE: usize = 2;
-const EIGHT_PLACES: usize = 3;
-const FIFTEEN_PLACES: usize = 4;
-const LOWER_PLACES_STAY: usize = 5;
-const NOT_THE_ONE_BEFORE_THE_FULL: usize = 6;
-const FROM_THE_SECOND_ON: usize = 7;
-const THE_FULL_ONE_TOO: usize = 8;
-const FIRST_FALSE_ATOM_RAISED: usize = 9;
-const LAST_FALSE_ATOM_RAISED: usize = 10;
-const ONE_PLACE_MORE: usize = 11;
-const PLACES_IN_A_BYTE: usize = 12;
+    };
+    PlacesInAByte: |step| step.with(&step.truths.iter().map(|atom| atom % 256).collect::<Vec<_>>());
+}
 
 /// What a test of a candidate gives that looks at smaller readings in one of these ways.
-fn tested<const WAY: usize>(right: Answer, candidate: &[u8], evaluate: impl Fn(&[u8]) -> Answer) -> Answer {
+fn tested<W: Way>(right: Answer, candidate: &[u8], evaluate: impl Fn(&[u8]) -> Answer) -> Answer {
     if right.number != 0 {
         return right;
     }
@@ -101,30 +99,30 @@ fn tested<const WAY: usize>(right: Answer, candidate: &[u8], evaluate: impl Fn(&
     let truths: Vec<usize> = true_atoms(candidate).collect();
     let smaller = |number: usize| {
         let mut reading = candidate.to_vec();
-        WAYS[WAY](&mut Step { number, truths: &truths, reading: &mut reading }) && satisfied(&reading)
+        W::MAKE(&mut Step { number, truths: &truths, reading: &mut reading }) && satisfied(&reading)
     };
     let holds = satisfied(candidate) && !(0..2 << truths.len()).any(smaller);
     Answer { result: usize::from(holds), ..right }
 }
 
-fn test_theory<const WAY: usize>(theory: &[u8], candidate: &[u8]) -> Answer {
+fn test_theory<W: Way>(theory: &[u8], candidate: &[u8]) -> Answer {
     let right = reference::test_theory(theory, candidate);
-    tested::<WAY>(right, candidate, |reading| reference::evaluate_theory(theory, reading))
+    tested::<W>(right, candidate, |reading| reference::evaluate_theory(theory, reading))
 }
 
-fn test_program<const WAY: usize>(program: &[u8], candidate: &[u8]) -> Answer {
+fn test_program<W: Way>(program: &[u8], candidate: &[u8]) -> Answer {
     let right = reference::test_program(program, candidate);
-    tested::<WAY>(right, candidate, |reading| reference::evaluate_program(program, reading))
+    tested::<W>(right, candidate, |reading| reference::evaluate_program(program, reading))
 }
 
-fn list_sets<const WAY: usize>(theory: &[u8], out: &mut [u8]) -> Answer {
+fn list_sets<W: Way>(theory: &[u8], out: &mut [u8]) -> Answer {
     let right = reference::list_sets(theory, &mut out.to_vec());
     if right.number != 0 && right.number != 8 {
         return right;
     }
     let atoms = get2(theory, 0);
     let candidate = |set: u16| lists::reading(set.into(), set.into(), atoms);
-    let sets = (0..1 << atoms).filter(|&set| test_theory::<WAY>(theory, &candidate(set)).result == 1);
+    let sets = (0..1 << atoms).filter(|&set| test_theory::<W>(theory, &candidate(set)).result == 1);
     let bytes: Vec<u8> = sets.flat_map(u16::to_le_bytes).collect();
     match out.get_mut(..bytes.len()) {
         Some(part) => {
@@ -136,12 +134,12 @@ fn list_sets<const WAY: usize>(theory: &[u8], out: &mut [u8]) -> Answer {
 }
 
 /// The reference with one of these calls instead of its own.
-fn one_by_one<const WAY: usize>() -> [(&'static str, Calls); 3] {
+fn one_by_one<W: Way>() -> [(&'static str, Calls); 3] {
     let good = Calls { name: "broken", ..reference::CALLS };
     [
-        ("test_theory", Calls { test_theory: test_theory::<WAY>, ..good }),
-        ("test_program", Calls { test_program: test_program::<WAY>, ..good }),
-        ("list_sets", Calls { list_sets: list_sets::<WAY>, ..good }),
+        ("test_theory", Calls { test_theory: test_theory::<W>, ..good }),
+        ("test_program", Calls { test_program: test_program::<W>, ..good }),
+        ("list_sets", Calls { list_sets: list_sets::<W>, ..good }),
     ]
 }
 
@@ -162,7 +160,7 @@ fn found_in(calls: &[(&str, Calls)]) {
 
 #[test]
 fn what_these_are_made_of_is_right() {
-    let [(_, theories), (_, programs), (_, listings)] = one_by_one::<RIGHT>();
+    let [(_, theories), (_, programs), (_, listings)] = one_by_one::<Right>();
     for one in [theories, programs] {
         assert!(Suite::new(&reference::CALLS, &one, 1).candidates(3_000, 1_000).is_ok());
     }
@@ -171,30 +169,30 @@ fn what_these_are_made_of_is_right() {
 
 #[test]
 fn carries_left_out() {
-    found_in(&one_by_one::<NO_CARRY>());
-    found_in(&one_by_one::<A_CARRY_OVER_ONE_PLACE>());
-    found_in(&one_by_one::<EIGHT_PLACES>());
-    found_in(&one_by_one::<LOWER_PLACES_STAY>());
+    found_in(&one_by_one::<NoCarry>());
+    found_in(&one_by_one::<CarryOverOnePlace>());
+    found_in(&one_by_one::<EightPlaces>());
+    found_in(&one_by_one::<LowerPlacesStay>());
     // In a listing there are never sixteen places.
-    found_in(&one_by_one::<FIFTEEN_PLACES>()[..2]);
+    found_in(&one_by_one::<FifteenPlaces>()[..2]);
 }
 
 #[test]
 fn places_of_other_atoms() {
     // Nor are there so many atoms.
-    found_in(&one_by_one::<PLACES_IN_A_BYTE>()[..2]);
+    found_in(&one_by_one::<PlacesInAByte>()[..2]);
 }
 
 #[test]
 fn subsets_left_out_or_too_many() {
-    found_in(&one_by_one::<NOT_THE_ONE_BEFORE_THE_FULL>());
-    found_in(&one_by_one::<FROM_THE_SECOND_ON>());
-    found_in(&one_by_one::<THE_FULL_ONE_TOO>());
+    found_in(&one_by_one::<NotTheOneBeforeTheFull>());
+    found_in(&one_by_one::<FromTheSecondOn>());
+    found_in(&one_by_one::<TheFullOneToo>());
 }
 
 #[test]
 fn false_atoms_raised() {
-    found_in(&one_by_one::<FIRST_FALSE_ATOM_RAISED>());
-    found_in(&one_by_one::<LAST_FALSE_ATOM_RAISED>());
-    found_in(&one_by_one::<ONE_PLACE_MORE>());
+    found_in(&one_by_one::<FirstFalseAtomRaised>());
+    found_in(&one_by_one::<LastFalseAtomRaised>());
+    found_in(&one_by_one::<OnePlaceMore>());
 }
