@@ -1,38 +1,67 @@
--- How long the parts of an image are: a header and a rule have a fixed number of bytes, and a list of rules goes by induction. Assumes nothing.
-use mathlib.Core.Path.{_≡_, refl}
+-- How long the parts of an image are: a slot has two bytes, a header sixteen, and a rule and a list of rules go by induction. Assumes nothing.
+use mathlib.Core.Path.{_≡_, refl, _∙_}
+use mathlib.Core.Bool.{Bool, true, false, cond}
 use mathlib.Core.List.{List, [], _∷_, _++_, append-assoc, append-nil}
-use Prim.Native.Nat.{ℕ}
+use Prim.Native.Nat.{ℕ, zero, suc, _+_, _*_, _≤_}
 use native.Mathlib.Omega.{arith}
-use lib.ListN.{length, length-append}
+use lib.ListN.{length, take, length-append}
 use Rattle.program.specs.Rule.{Rule}
 use Rattle.program.specs.Program.{Program}
-use Rattle.program.specs.Image.{headerLength, ruleLength, ruleStart, imageLength, ruleBytes, rulesBytes, header, imageOf}
+use Rattle.program.specs.Image.{headerLength, slotCount, ruleLength, literals, literalTotal, slotBytes, countedBytes, ruleBytes, rulesBytes, imageLength, header, imageOf}
 
-pub length-ruleBytes : (r : Rule) → length (ruleBytes r) ≡ ruleLength
+pub length-slotBytes : (l : List ℕ) (n : ℕ) → length (slotBytes l n) ≡ n * 2
+unfolding slotBytes
+length-slotBytes l zero = refl
+length-slotBytes l (suc n) = rw length-append (omega (arith, length-slotBytes l n))
+
+-- The bytes of a rule of so many counts have its length.
+pub length-countedBytes : (packed : Bool) (h p n : ℕ) (slots : List ℕ) → length (countedBytes packed h p n slots) ≡ ruleLength packed (h + p + n)
+length-countedBytes packed h p n slots = omega (arith, length-slotBytes slots (slotCount packed (h + p + n)))
+
+-- The packed form of a rule of at most three literals is the beginning of its fixed form.
+pub countedBytes-part : (h p n : ℕ) (slots : List ℕ) → h + p + n ≤ 3 → take (ruleLength true (h + p + n)) (countedBytes false h p n slots) ≡ countedBytes true h p n slots
+unfolding slotBytes
+countedBytes-part h p n slots few = parts (h + p + n) few
+  where
+    parts : (used : ℕ) → used ≤ 3 → take (ruleLength true used) (h ∷ p ∷ n ∷ 0 ∷ slotBytes slots 3) ≡ h ∷ p ∷ n ∷ 0 ∷ slotBytes slots used
+    parts zero l = refl
+    parts (suc zero) l = refl
+    parts (suc (suc zero)) l = refl
+    parts (suc (suc (suc zero))) l = refl
+    parts (suc (suc (suc (suc k)))) l = absurd (omega arith)
+
+-- The counts of a rule are its number of literals.
+pub literals-counted : (r : Rule) → length (r .heads) + length (r .positives) + length (r .negatives) ≡ length (literals r)
+literals-counted r = omega (arith, length-append (r .heads) (r .positives ++ r .negatives), length-append (r .positives) (r .negatives))
+
+pub length-ruleBytes : (packed : Bool) (r : Rule) → length (ruleBytes packed r) ≡ ruleLength packed (length (literals r))
 unfolding ruleBytes
-length-ruleBytes r = refl
+length-ruleBytes packed r =
+    rw (← literals-counted r) (length-countedBytes packed (length (r .heads)) (length (r .positives)) (length (r .negatives)) (literals r))
 
-pub length-rulesBytes : (rs : List Rule) → length (rulesBytes rs) ≡ ruleStart (length rs)
-unfolding rulesBytes
-length-rulesBytes [] = refl
-length-rulesBytes (r ∷ rs) = rw length-append (omega (arith, length-ruleBytes r, length-rulesBytes rs))
-
-pub length-header : (A B K : ℕ) → length (header A B K) ≡ headerLength
+pub length-header : (packed : Bool) (A B K total : ℕ) → length (header packed A B K total) ≡ headerLength
 unfolding header
-length-header A B K = refl
+length-header packed A B K total = refl
 
-pub length-imageOf : (p : Program) → length (imageOf p) ≡ imageLength (length (p .rules))
+pub length-rulesBytes : (packed : Bool) (rs : List Rule) → headerLength + length (rulesBytes packed rs) ≡ imageLength packed (length rs) (literalTotal rs)
+unfolding rulesBytes
+length-rulesBytes true [] = refl
+length-rulesBytes false [] = refl
+length-rulesBytes true (r ∷ rs) = rw length-append (omega (arith, length-ruleBytes true r, length-rulesBytes true rs))
+length-rulesBytes false (r ∷ rs) = rw length-append (omega (arith, length-ruleBytes false r, length-rulesBytes false rs))
+
+pub length-imageOf : (packed : Bool) (p : Program) → length (imageOf packed p) ≡ headerLength + length (rulesBytes packed (p .rules))
 unfolding imageOf
-length-imageOf p =
-    rw length-append (omega (arith, length-header (p .atoms) (p .size) (length (p .rules)), length-rulesBytes (p .rules)))
+length-imageOf packed p =
+    rw length-append (omega (arith, length-header packed (p .atoms) (p .size) (length (p .rules)) (headerLength + length (rulesBytes packed (p .rules)))))
 
 -- The bytes of two lists of rules stand one behind the other.
-pub rulesBytes-append : (rs qs : List Rule) → rulesBytes (rs ++ qs) ≡ rulesBytes rs ++ rulesBytes qs
+pub rulesBytes-append : (packed : Bool) (rs qs : List Rule) → rulesBytes packed (rs ++ qs) ≡ rulesBytes packed rs ++ rulesBytes packed qs
 unfolding rulesBytes
-rulesBytes-append [] qs = refl
-rulesBytes-append (r ∷ rs) qs = rw (rulesBytes-append rs qs, append-assoc)
+rulesBytes-append packed [] qs = refl
+rulesBytes-append packed (r ∷ rs) qs = rw (rulesBytes-append packed rs qs, append-assoc)
 
 -- One rule more.
-pub rulesBytes-more : (rs : List Rule) (r : Rule) → rulesBytes (rs ++ (r ∷ [])) ≡ rulesBytes rs ++ ruleBytes r
+pub rulesBytes-more : (packed : Bool) (rs : List Rule) (r : Rule) → rulesBytes packed (rs ++ (r ∷ [])) ≡ rulesBytes packed rs ++ ruleBytes packed r
 unfolding rulesBytes
-rulesBytes-more rs r = rw (rulesBytes-append rs (r ∷ []), append-nil (ruleBytes r))
+rulesBytes-more packed rs r = rw (rulesBytes-append packed rs (r ∷ []), append-nil (ruleBytes packed r))

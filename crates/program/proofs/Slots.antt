@@ -1,48 +1,72 @@
--- Whether a rule of three slots holds goes slot by slot: a test that is computed at all values and counts up to three. Assumes nothing.
-use mathlib.Core.Path.{_≡_, refl}
-use mathlib.Core.Bool.{Bool, cond, Bool·beq}
-use mathlib.Core.List.{List, [], _∷_, map}
-use Prim.Native.Nat.{ℕ, _+_, _≤_}
+-- The slots of a rule, one by one: the test of them all is that of each, and a slot that was written is read as it was. By induction on their number. Assumes nothing.
+use mathlib.Core.Path.{_≡_, refl, sym, _∙_}
+use mathlib.Core.Logic.{⊎-elim}
+use mathlib.Core.Bool.{true, false, _&&_, and-false}
+use mathlib.Core.List.{List, _++_, append-assoc}
+use Prim.Native.Nat.{ℕ, zero, suc, _+_, _*_, _≤_, _<_}
+use native.Mathlib.Nat.{add-zero, eq-or-lt-of-le}
 use native.Mathlib.Omega.{arith}
-use lib.Dec.{ltb, leb}
-use Rattle.logic.specs.declared.Value.{Value}
-use Rattle.logic.specs.declared.Value.the-variants.{Neither, Both}
-use Rattle.logic.specs.Value.{number, smaller, larger, negation}
-use Rattle.logic.proofs.Bools.{beq-sound}
-use Rattle.logic.proofs.Finite.{every, agree₃, all, all-at}
-use Rattle.logic.proofs.Lists.{take-map, drop-map}
-use Rattle.program.specs.Rule.{holds}
-use Rattle.program.specs.Image.{ruleOf}
-use Rattle.program.proofs.Rules.{smallest-map, largest-map}
+use lib.ListN.{getD, length, take, drop, length-drop}
+use lib.Seq.{take-add, take-suc, drop-drop, getD-drop}
+use Rattle.wire.specs.Wire.{u16At, u16Bytes, Bytes}
+use Rattle.wire.specs.Sequence.{upTo}
+use Rattle.wire.proofs.Laws.{u16At-append, u16At-u16Bytes, u16Bytes-u16At}
+use Rattle.logic.proofs.Bools.{&&-split}
+use Rattle.program.specs.Image.{slotAt, slotKeeps, slotsKeep, slotBytes}
+use Rattle.program.proofs.Lengths.{length-slotBytes}
 
--- What slot i adds to the head, and to the body.
-abbrev pub inHead : (heads i : ℕ) → Value → Value
-inHead heads i v = cond (ltb i heads) v Neither
+-- ---- the test
 
-abbrev pub inBody : (heads end used i : ℕ) → Value → Value
-inBody heads end used i v = cond (ltb i heads) Both (cond (ltb i end) v (cond (ltb i used) (negation v) Both))
+module _ (B used : ℕ) (slot : ℕ → ℕ) where
+  pub slotsKeep-at : (n : ℕ) → slotsKeep B used slot n ≡ true → (i : ℕ) → i < n → slotKeeps B used i (slot i) ≡ true
+  unfolding slotsKeep
+  slotsKeep-at zero h i l = absurd (omega arith)
+  slotsKeep-at (suc n) h i l =
+      let both = &&-split (slotsKeep B used slot n) (slotKeeps B used n (slot n)) h in
+      ⊎-elim
+      (λ (e : suc i ≡ suc n). let m : i ≡ n = omega arith in rw m (both .1))
+      (λ (m : suc i < suc n). slotsKeep-at n (both .0) i (omega arith))
+      (eq-or-lt-of-le l)
 
--- The test slot by slot.
-abbrev pub slotsHold : (heads positives negatives : ℕ) → (x y z : Value) → Bool
-slotsHold h p n x y z =
-    leb (number (smaller (inBody h (h + p) (h + p + n) 0 x) (smaller (inBody h (h + p) (h + p + n) 1 y) (inBody h (h + p) (h + p + n) 2 z))))
-    (number (larger (inHead h 0 x) (larger (inHead h 1 y) (inHead h 2 z))))
+  pub slotsKeep-each : (n : ℕ) → ((i : ℕ) → i < n → slotKeeps B used i (slot i) ≡ true) → slotsKeep B used slot n ≡ true
+  unfolding slotsKeep
+  slotsKeep-each zero h = refl
+  slotsKeep-each (suc n) h = rw (slotsKeep-each n (λ i l. h i (omega arith)), h n (omega arith))
 
-abbrev ruleHolds : (h p n : ℕ) → (x y z : Value) → Bool
-ruleHolds h p n x y z = holds (λ v. v) (ruleOf h p n (x ∷ y ∷ z ∷ []))
+  pub slotsKeep-broken : (n i : ℕ) → i < n → slotKeeps B used i (slot i) ≡ false → slotsKeep B used slot n ≡ false
+  unfolding slotsKeep
+  slotsKeep-broken zero i l t = absurd (omega arith)
+  slotsKeep-broken (suc n) i l t = ⊎-elim
+      (λ (e : suc i ≡ suc n). let m : i ≡ n = omega arith in rw (rw m at t) (and-false (slotsKeep B used slot n)))
+      (λ (m : suc i < suc n). rw (slotsKeep-broken n i (omega arith) t))
+      (eq-or-lt-of-le l)
 
-abbrev alike : (h p n : ℕ) → Bool
-alike h p n = every (λ x. every (λ y. every (λ z. Bool·beq (slotsHold h p n x y z) (ruleHolds h p n x y z))))
+-- ---- the bytes
 
--- Slot by slot is what the rule says.
-pub slots-hold : (h p n : ℕ) → h ≤ 3 → p ≤ 3 → n ≤ 3 → (x y z : Value) → slotsHold h p n x y z ≡ holds (λ v. v) (ruleOf h p n (x ∷ y ∷ z ∷ []))
-slots-hold h p n hh pp nn =
-    let every-h = all-at (λ h. all (λ p. all (alike h p) 4) 4) 4 refl h (omega arith) in
-    let every-p = all-at (λ p. all (alike h p) 4) 4 every-h p (omega arith) in
-    agree₃ Bool·beq beq-sound (slotsHold h p n) (ruleHolds h p n) (all-at (alike h p) 4 every-p n (omega arith))
+-- What was written to slot i is read from it.
+pub slotBytes-at : (l : List ℕ) (n i : ℕ) → i < n → getD l i 0 < 65536 → (rest : List ℕ) → u16At (slotBytes l n ++ rest) (i * 2) ≡ getD l i 0
+unfolding slotBytes
+slotBytes-at l zero i h small rest = absurd (omega arith)
+slotBytes-at l (suc n) i h small rest = rw (append-assoc (slotBytes l n) (u16Bytes (getD l n 0)) rest) (⊎-elim
+    (λ (e : suc i ≡ suc n). let m : i ≡ n = omega arith in
+    rw m (u16At-append (slotBytes l n) (u16Bytes (getD l n 0) ++ rest) 0 (n * 2) (omega (arith, length-slotBytes l n)) ∙ u16At-u16Bytes (getD l n 0) (rw m at small)))
+    (λ (m : suc i < suc n). slotBytes-at l n i (omega arith) small (u16Bytes (getD l n 0) ++ rest))
+    (eq-or-lt-of-le h))
 
--- A rule holds for its atoms exactly as the rule of their values does.
-module _ {S : Type 0} (v : S → Value) where
-  pub holds-map : (h p n : ℕ) (slots : List S) → holds (λ x. x) (ruleOf h p n (map v slots)) ≡ holds v (ruleOf h p n slots)
-  holds-map h p n slots =
-      simp (drop-map, take-map, smallest-map, largest-map)
+-- The first n of a list, one by one.
+pub take-getD : (n : ℕ) (s : List ℕ) → n ≤ length s → upTo (λ i. getD s i 0) n ≡ take n s
+unfolding upTo
+take-getD zero s h = refl
+take-getD (suc n) s h = rw (take-suc s n 0 h, take-getD n s (omega arith))
+
+-- Slots that hold what a rule's bytes have are written to those bytes.
+pub slotBytes-read : (s : List ℕ) → Bytes s → (l : List ℕ) (n : ℕ) → 4 + n * 2 ≤ length s → ((i : ℕ) → i < n → getD l i 0 ≡ slotAt s i)
+    → slotBytes l n ≡ take (n * 2) (drop 4 s)
+unfolding slotBytes upTo
+slotBytes-read s bytes l zero long same = refl
+slotBytes-read s bytes l (suc n) long same =
+    let at : ℕ = 4 + n * 2 in
+    let next : suc n * 2 ≡ n * 2 + 2 = omega arith in
+    let two : take 2 (drop (n * 2) (drop 4 s)) ≡ u16Bytes (slotAt s n)
+    = rw (drop-drop, ← take-getD 2 (drop at s) (omega (arith, length-drop at s)), getD-drop at s 0 0, getD-drop at s 1 0, add-zero at) (sym (u16Bytes-u16At s bytes at)) in
+    rw (next, take-add (n * 2) 2 (drop 4 s), slotBytes-read s bytes l n (omega arith) (λ i h. same i (omega arith)), two, same n (omega arith))

@@ -1,46 +1,72 @@
-//! The program image: flat rules as bytes.
+//! The program image in its two forms: flat rules as bytes.
 use logic::Value;
 use refusal::Answer;
 ghost use mathlib.Core.Path.{_≡_};
-ghost use mathlib.Core.Bool.{true, not, cond};
-ghost use mathlib.Core.List.{[], _∷_};
-ghost use Prim.Native.Nat.{_+_, _*_, _≤_, _<_};
-ghost use lib.Dec.{ltb};
+ghost use mathlib.Core.Bool.{Bool, true, false, cond};
+ghost use Prim.Native.Nat.{ℕ, _+_, _*_, _≤_, _<_};
+ghost use lib.Dec.{leb, ltb};
 ghost use lib.ListN.{length};
 ghost use Rattle.refusal.specs.Limits.{mostB};
 ghost use Rattle.refusal.specs.Table.{answer, none};
 ghost use Rattle.refusal.specs.First.{first};
-ghost use Rattle.logic.specs.declared.Value.the-variants.{Neither, Both};
-ghost use Rattle.logic.specs.Value.{negation};
+ghost use Rattle.wire.specs.Wire.{over};
+ghost use Rattle.logic.specs.Value.{number, negation};
 ghost use Rattle.logic.specs.Formula.{readingOf, valueOf};
-ghost use Rattle.program.specs.Rule.{holds};
+ghost use Rattle.program.specs.Rule.{smallest, largest, holds};
 ghost use Rattle.program.specs.Program.{satisfiesProgram};
-ghost use Rattle.program.specs.Image.{sizeOf, ruleStart, imageLength, usedIn, ruleOf, ruleIn, programOf};
-ghost use Rattle.program.specs.Image.{slotKeeps, slotsKeep, ruleKeeps, tenBytes, header};
-ghost use Rattle.program.specs.Rows.{outside, programRows};
+ghost use Rattle.program.specs.Image.{sizeOf, headerLength, mostLiterals, slotCount, ruleLength, usedAt, slotAt, slotsFrom, ruleAt, programOf};
+ghost use Rattle.program.specs.Image.{slotKeeps, slotsKeep, ruleKeeps, countedBytes, imageLength, header};
+ghost use Rattle.program.specs.Literals.{Named, literalValue};
+ghost use Rattle.program.specs.Rows.{outside, totalKeeps, brokenAt, programRows};
 
-// The bytes of a header and of a rule, as specs/Image.antt names them.
+// The bytes of a header, and of a rule in the fixed form.
 const HEADER_LENGTH: usize = 16;
 
-const RULE_LENGTH: usize = 10;
+const FIXED_LENGTH: usize = 10;
 
-// The length of an image of `rules` rules.
-pub fn image_length(rules: usize) -> usize
-    requires { ⌜ rules < 65536 ⌝ }
-    ensures { λ r. ⌜ r ≡ imageLength rules ⌝ }
+// The most literals that a rule of this form has.
+fn most_literals(packed: bool) -> usize
+    ensures { λ r. ⌜ r ≡ mostLiterals packed ⌝ }
 {
-    HEADER_LENGTH + rules * RULE_LENGTH
+    if packed { 8 } else { 3 }
 }
 
-// The header of an image of `rules` rules.
-pub fn header_bytes(atoms: usize, size: usize, rules: usize) -> [u8; 16]
-    requires { ⌜ rules < 65536 ⌝ }
-    ensures { λ r. ⌜ r ≡ header atoms size rules ⌝ }
+// The length of a rule of `used` literals.
+fn rule_length(packed: bool, used: usize) -> usize
+    requires { ⌜ used < 65536 ⌝ }
+    ensures { λ r. ⌜ r ≡ ruleLength packed used ⌝ }
+{
+    if packed { 4 + used * 2 } else { FIXED_LENGTH }
+}
+
+// The length of the image of `rules` rules that have `literals` literals in all.
+pub fn image_length(packed: bool, rules: usize, literals: usize) -> usize
+    requires { ⌜ (rules < 65536) × (literals < 65536) ⌝ }
+    ensures { λ r. ⌜ r ≡ imageLength packed rules literals ⌝ }
+{
+    if packed {
+        HEADER_LENGTH + rules * 4 + literals * 2
+    } else {
+        HEADER_LENGTH + rules * FIXED_LENGTH
+    }
+}
+
+// What bytes 6-7 hold.
+fn form_number(packed: bool) -> usize
+    ensures { λ r. ⌜ r ≡ cond packed 1 0 ⌝ }
+{
+    if packed { 1 } else { 0 }
+}
+
+// The header of an image of `rules` rules, with its total length.
+pub fn header_bytes(packed: bool, atoms: usize, size: usize, rules: usize, total: usize) -> [u8; 16]
+    ensures { λ r. ⌜ r ≡ header packed atoms size rules total ⌝ }
 {
     let a = wire::u16_bytes(atoms);
     let b = wire::u16_bytes(size);
     let k = wire::u16_bytes(rules);
-    let total = wire::u32_bytes(image_length(rules));
+    let form = wire::u16_bytes(form_number(packed));
+    let bytes = wire::u32_bytes(total);
     [
         a[0],
         a[1],
@@ -48,23 +74,23 @@ pub fn header_bytes(atoms: usize, size: usize, rules: usize) -> [u8; 16]
         b[1],
         k[0],
         k[1],
-        0,
-        0,
+        form[0],
+        form[1],
         16,
         0,
         0,
         0,
-        total[0],
-        total[1],
-        total[2],
-        total[3],
+        bytes[0],
+        bytes[1],
+        bytes[2],
+        bytes[3],
     ]
 }
 
-// The ten bytes of a rule of so many heads, positives and negatives, in this order in the slots.
-pub fn rule_bytes(heads: usize, positives: usize, negatives: usize, slots: [usize; 3]) -> [u8; 10]
+// The ten bytes of a rule of so many heads, positives and negatives, in this order in the slots: those of the fixed form.
+fn rule_bytes(heads: usize, positives: usize, negatives: usize, slots: [usize; 3]) -> [u8; 10]
     requires { ⌜ (heads < 256) × (positives < 256) × (negatives < 256) ⌝ }
-    ensures { λ r. ⌜ r ≡ tenBytes heads positives negatives slots ⌝ }
+    ensures { λ r. ⌜ r ≡ countedBytes false heads positives negatives slots ⌝ }
 {
     let a = wire::u16_bytes(slots[0]);
     let b = wire::u16_bytes(slots[1]);
@@ -83,6 +109,29 @@ pub fn rule_bytes(heads: usize, positives: usize, negatives: usize, slots: [usiz
     ]
 }
 
+// Writes a rule of at most three literals over the start of `out`, and gives how many bytes it has.
+pub fn put_rule(
+    out: &mut [u8],
+    packed: bool,
+    heads: usize,
+    positives: usize,
+    negatives: usize,
+    slots: [usize; 3],
+) -> usize
+    requires { ⌜ (heads + positives + negatives ≤ 3) × (length (countedBytes packed heads positives negatives slots) ≤ length (now out)) ⌝ }
+    ensures { λ r. ⌜ r ≡ length (countedBytes packed heads positives negatives slots) ⌝ }
+    ensures { λ _. ⌜ now (out .exit) ≡ over (countedBytes packed heads positives negatives slots) (now (out .entry)) ⌝ }
+{
+    let bytes = rule_bytes(heads, positives, negatives, slots);
+    if packed {
+        return wire::put(
+            out,
+            &bytes[..rule_length(true, heads + positives + negatives)],
+        );
+    }
+    wire::put(out, &bytes)
+}
+
 // Rows 21 to 26, in this order.
 pub fn check(program: &[u8]) -> Answer
     ensures { λ r. ⌜ r ≡ answer (programRows (now (program .entry))) 1 ⌝ }
@@ -95,19 +144,19 @@ pub fn check(program: &[u8]) -> Answer
     if is_outside(wire::u16_at(program, 0), size, count) {
         return refusal::refuse(22, 0);
     }
-    if wire::u16_at(program, 6) != 0 {
+    let form = wire::u16_at(program, 6);
+    if 1 < form {
         return refusal::refuse(23, 0);
     }
     let total = wire::u32_at(program, 12);
-    let wanted = image_length(count);
-    if wire::u32_at(program, 8) != HEADER_LENGTH || total != wanted {
+    if wire::u32_at(program, 8) != HEADER_LENGTH || !total_keeps(form == 1, count, total) {
         return refusal::refuse(24, 0);
     }
     if program.len() != total {
         return refusal::refuse(25, total);
     }
-    let broken = first_broken_rule(&program[HEADER_LENGTH..], count, size);
-    if broken < count {
+    let broken = first_broken_rule(&program[HEADER_LENGTH..], form == 1, count, size);
+    if broken <= count {
         return refusal::refuse(26, broken);
     }
     refusal::accept(1)
@@ -121,56 +170,100 @@ fn is_outside(atoms: usize, size: usize, count: usize) -> bool
         || (size < atoms || (refusal::MOST_B < size || refusal::MOST_RULES < count))
 }
 
-// The first rule that row 26 is about, and `count` where there is none.
-fn first_broken_rule(rules: &[u8], count: usize, size: usize) -> usize
-    requires { ⌜ ruleStart count ≤ length (now rules) ⌝ }
-    ensures { λ r. ⌜ r ≡ first (λ k. not (ruleKeeps size (now (rules .entry)) k)) count ⌝ }
+// Whether an image of `count` rules may have this total.
+fn total_keeps(packed: bool, count: usize, total: usize) -> bool
+    requires { ⌜ count < 65536 ⌝ }
+    ensures { λ r. ⌜ r ≡ totalKeeps packed count total ⌝ }
 {
+    if packed {
+        HEADER_LENGTH <= total
+    } else {
+        total == HEADER_LENGTH + count * FIXED_LENGTH
+    }
+}
+
+// The first rule that row 26 is about, `count` where bytes are left behind the last, and `count + 1` where nothing is wrong.
+fn first_broken_rule(rules: &[u8], packed: bool, count: usize, size: usize) -> usize
+    requires { ⌜ count < 65536 ⌝ }
+    ensures { λ r. ⌜ r ≡ first (brokenAt packed size count (now (rules .entry))) (count + 1) ⌝ }
+{
+    let mut at = 0;
     let mut place = 0;
     while place < count {
-        if !keeps(rules, place, size) {
+        let rule = &rules[at..];
+        if !keeps(rule, packed, size) {
             return place;
         }
+        at += rule_length(packed, used_at(rule));
         place += 1;
     }
-    place
+    if at < rules.len() {
+        return place;
+    }
+    place + 1
 }
 
-// Whether rule k has at most three literals, all below `size`, and 0 wherever it is to be 0.
-fn keeps(rules: &[u8], k: usize, size: usize) -> bool
-    requires { ⌜ ruleStart (k + 1) ≤ length (now rules) ⌝ }
-    ensures { λ r. ⌜ r ≡ ruleKeeps size (now (rules .entry)) k ⌝ }
+// Whether the rule at the start of a slice keeps to its form, with all its literals below `size`.
+fn keeps(rule: &[u8], packed: bool, size: usize) -> bool
+    ensures { λ r. ⌜ r ≡ ruleKeeps packed size (now (rule .entry)) ⌝ }
 {
-    let at = k * RULE_LENGTH;
-    let used = used_in(rules, k);
-    let first = wire::u16_at(rules, at + 4);
-    let second = wire::u16_at(rules, at + 6);
-    let third = wire::u16_at(rules, at + 8);
-    used <= 3 && (rules[at + 3] == 0 && slots_keep(first, second, third, used, size))
+    if rule.len() < 4 {
+        return false;
+    }
+    let used = used_at(rule);
+    used <= most_literals(packed)
+        && (rule_length(packed, used) <= rule.len()
+            && (rule[3] == 0 && slots_keep(rule, packed, used, size)))
 }
 
-// The number of literals of rule k: a sum of three bytes that need not be a byte.
-fn used_in(rules: &[u8], k: usize) -> usize
-    requires { ⌜ ruleStart (k + 1) ≤ length (now rules) ⌝ }
-    ensures { λ r. ⌜ r ≡ usedIn (now (rules .entry)) k ⌝ }
+// The number of literals of the rule at the start of a slice: a sum of three bytes that need not be a byte.
+fn used_at(rule: &[u8]) -> usize
+    requires { ⌜ 4 ≤ length (now rule) ⌝ }
+    ensures { λ r. ⌜ (r ≡ usedAt (now (rule .entry))) × (r < 65536) ⌝ }
 {
-    let at = k * RULE_LENGTH;
-    wire::wide(rules[at]) + wire::wide(rules[at + 1]) + wire::wide(rules[at + 2])
+    wire::wide(rule[0]) + wire::wide(rule[1]) + wire::wide(rule[2])
 }
 
-// Whether each of the three slots keeps its part in a rule of `used` literals.
-fn slots_keep(first: usize, second: usize, third: usize, used: usize, size: usize) -> bool
-    ensures { λ r. ⌜ r ≡ slotsKeep size used first second third ⌝ }
+// Whether each slot of a rule of `used` literals keeps its part.
+fn slots_keep(rule: &[u8], packed: bool, used: usize, size: usize) -> bool
+    requires { ⌜ (used < 65536) × (ruleLength packed used ≤ length (now rule)) ⌝ }
+    ensures { λ r. ⌜ r ≡ slotsKeep size used (slotAt (now (rule .entry))) (slotCount packed used) ⌝ }
 {
-    slot_keeps(first, 0, used, size)
-        && (slot_keeps(second, 1, used, size) && slot_keeps(third, 2, used, size))
+    if packed {
+        return atoms_keep(rule, used, size);
+    }
+    slot_keeps(wire::u16_at(rule, 4), 0, used, size)
+        && (slot_keeps(wire::u16_at(rule, 6), 1, used, size)
+            && slot_keeps(wire::u16_at(rule, 8), 2, used, size))
+}
+
+// Whether the first `used` slots hold atoms below `size`.
+fn atoms_keep(rule: &[u8], used: usize, size: usize) -> bool
+    requires { ⌜ (used < 65536) × (ruleLength true used ≤ length (now rule)) ⌝ }
+    ensures { λ r. ⌜ r ≡ slotsKeep size used (slotAt (now (rule .entry))) used ⌝ }
+{
+    let mut i = 0;
+    while i < used {
+        if size <= wire::u16_at(rule, 4 + i * 2) {
+            return false;
+        }
+        i += 1;
+    }
+    true
 }
 
 // Whether slot i of a rule of `used` literals holds an atom below `size`, or 0 where it is unused.
 fn slot_keeps(atom: usize, i: usize, used: usize, size: usize) -> bool
     ensures { λ r. ⌜ r ≡ slotKeeps size used i atom ⌝ }
 {
-    if i < used { atom < size } else { atom == 0 }
+    atom < slot_bound(i, used, size)
+}
+
+// What slot i stays below: an atom below `size`, and 0 below 1.
+fn slot_bound(i: usize, used: usize, size: usize) -> usize
+    ensures { λ r. ⌜ r ≡ cond (ltb i used) size 1 ⌝ }
+{
+    if i < used { size } else { 1 }
 }
 
 // B of an image that is accepted.
@@ -186,83 +279,92 @@ pub fn satisfied(program: &[u8], reading: &[u8]) -> bool
     requires { ⌜ (none (programRows (now program)) ≡ true) × (length (now reading) ≡ sizeOf (now program)) ⌝ }
     ensures { λ r. ⌜ r ≡ satisfiesProgram (readingOf (now (reading .entry))) (programOf (now (program .entry))) ⌝ }
 {
+    let packed = wire::u16_at(program, 6) == 1;
     let count = wire::u16_at(program, 4);
     let rules = &program[HEADER_LENGTH..];
+    let mut at = 0;
     let mut k = 0;
     while k < count {
-        if !rule_holds(rules, k, reading) {
+        let rule = &rules[at..];
+        if !rule_holds(rule, reading) {
             return false;
         }
+        at += rule_length(packed, used_at(rule));
         k += 1;
     }
     true
 }
 
-// Whether a reading satisfies rule k.
-fn rule_holds(rules: &[u8], k: usize, reading: &[u8]) -> bool
-    requires { ⌜ (ruleStart (k + 1) ≤ length (now rules)) × (usedIn (now rules) k ≤ 3) ⌝ }
-    ensures { λ r. ⌜ r ≡ holds (valueOf (readingOf (now (reading .entry)))) (ruleIn (now (rules .entry)) k) ⌝ }
+// Whether a reading satisfies the rule at the start of a slice: its largest head value is 2, or a value of its body is at most that.
+fn rule_holds(rule: &[u8], reading: &[u8]) -> bool
+    requires { ⌜ Named (now rule) (length (now reading)) ⌝ }
+    ensures { λ r. ⌜ r ≡ holds (valueOf (readingOf (now (reading .entry)))) (ruleAt (now (rule .entry))) ⌝ }
 {
-    let at = k * RULE_LENGTH;
-    let heads = wire::wide(rules[at]);
-    let positives = wire::wide(rules[at + 1]);
-    let negatives = wire::wide(rules[at + 2]);
-    let first = value_of(reading, wire::u16_at(rules, at + 4));
-    let second = value_of(reading, wire::u16_at(rules, at + 6));
-    let third = value_of(reading, wire::u16_at(rules, at + 8));
-    values_hold(heads, positives, negatives, first, second, third)
-}
-
-// The value of an atom; 0 past the reading's end.
-fn value_of(reading: &[u8], atom: usize) -> Value
-    ensures { λ r. ⌜ r ≡ valueOf (readingOf (now (reading .entry))) atom ⌝ }
-{
-    if atom < reading.len() {
-        Value::of_byte(reading[atom])
-    } else {
-        Value::NEITHER
+    let heads = wire::wide(rule[0]);
+    let positives = wire::wide(rule[1]);
+    let head = largest_head(rule, heads, reading);
+    if 1 < head.byte() {
+        return true;
     }
+    body_at_most(rule, heads, positives, false, reading, head)
+        || body_at_most(
+            rule,
+            heads + positives,
+            wire::wide(rule[2]),
+            true,
+            reading,
+            head,
+        )
 }
 
-// Whether the smallest body value is at most the largest head value, for the values of the three slots.
-fn values_hold(
-    heads: usize,
-    positives: usize,
-    negatives: usize,
-    first: Value,
-    second: Value,
-    third: Value,
+// The largest value of the first `count` slots.
+fn largest_head(rule: &[u8], count: usize, reading: &[u8]) -> Value
+    requires { ⌜ Named (now rule) (length (now reading)) × (count ≤ usedAt (now rule)) ⌝ }
+    ensures { λ r. ⌜ r ≡ largest (valueOf (readingOf (now (reading .entry)))) (slotsFrom (now (rule .entry)) 0 count) ⌝ }
+{
+    let mut value = Value::NEITHER;
+    let mut i = 0;
+    while i < count {
+        value = value.or(value_at(rule, i, reading));
+        i += 1;
+    }
+    value
+}
+
+// Whether one of the literals in `count` slots from slot `start` on, all negative or all positive, has at most the value of a head that is not 2.
+fn body_at_most(
+    rule: &[u8],
+    start: usize,
+    count: usize,
+    negative: bool,
+    reading: &[u8],
+    head: Value,
 ) -> bool
-    requires { ⌜ (heads ≤ 3) × (positives ≤ 3) × (negatives ≤ 3) ⌝ }
-    ensures { λ r. ⌜ r ≡ holds (λ v. v) (ruleOf heads positives negatives (first ∷ second ∷ third ∷ [])) ⌝ }
+    requires { ⌜ Named (now rule) (length (now reading)) × (start + count ≤ usedAt (now rule)) × (number head < 2) ⌝ }
+    ensures { λ r. ⌜ r ≡ leb (number (smallest (literalValue negative (readingOf (now (reading .entry)))) (slotsFrom (now (rule .entry)) start count))) (number head) ⌝ }
 {
-    let end = heads + positives;
-    let used = end + negatives;
-    let others = in_body(second, 1, heads, end, used).and(in_body(third, 2, heads, end, used));
-    let body = in_body(first, 0, heads, end, used).and(others);
-    let head = in_head(first, 0, heads).or(in_head(second, 1, heads).or(in_head(third, 2, heads)));
-    body.byte() <= head.byte()
+    let mut i = 0;
+    while i < count {
+        let value = value_at(rule, start + i, reading);
+        if literal_value(value, negative).byte() <= head.byte() {
+            return true;
+        }
+        i += 1;
+    }
+    false
 }
 
-// What slot i adds to the head: its value where it is a head, else the value of the empty head.
-fn in_head(value: Value, i: usize, heads: usize) -> Value
-    ensures { λ r. ⌜ r ≡ cond (ltb i heads) value Neither ⌝ }
+// The value of a literal whose atom has this value.
+fn literal_value(value: Value, negative: bool) -> Value
+    ensures { λ r. ⌜ r ≡ cond negative (negation value) value ⌝ }
 {
-    choose(i < heads, value, Value::NEITHER)
+    if negative { value.not() } else { value }
 }
 
-// What slot i adds to the body: its value where it is a positive, the value of not where it is a negative, else the value
-// of the empty body. Heads end at `heads`, positives at `end`, negatives at `used`.
-fn in_body(value: Value, i: usize, heads: usize, end: usize, used: usize) -> Value
-    ensures { λ r. ⌜ r ≡ cond (ltb i heads) Both (cond (ltb i end) value (cond (ltb i used) (negation value) Both)) ⌝ }
+// The value of the atom in slot i.
+fn value_at(rule: &[u8], i: usize, reading: &[u8]) -> Value
+    requires { ⌜ Named (now rule) (length (now reading)) × (i < usedAt (now rule)) ⌝ }
+    ensures { λ r. ⌜ r ≡ valueOf (readingOf (now (reading .entry))) (slotAt (now (rule .entry)) i) ⌝ }
 {
-    let literal = choose(i < end, value, choose(i < used, value.not(), Value::BOTH));
-    choose(i < heads, Value::BOTH, literal)
-}
-
-// One of two values.
-fn choose(test: bool, yes: Value, no: Value) -> Value
-    ensures { λ r. ⌜ r ≡ cond test yes no ⌝ }
-{
-    if test { yes } else { no }
+    Value::of_byte(reading[wire::u16_at(rule, 4 + i * 2)])
 }

@@ -1,16 +1,18 @@
 -- `check` gives rows 21 to 26: each test is its row's, and at each return the rows before are past. Assumes nothing.
-use mathlib.Core.Path.{_≡_, sym, _∙_}
+use mathlib.Core.Path.{_≡_, sym, ap, _∙_}
 use mathlib.Core.Logic.{⊎-elim}
 use mathlib.Core.List.{List}
 use Prim.Native.Nat.{ℕ}
 use native.Mathlib.Omega.{arith}
-use lib.ListN.{drop, length-drop}
+use lib.Dec.{eqb}
+use lib.ListN.{drop}
 use denote.Ref.{now}
-use borrow.Author.Tests.{lt-ltb, le-ltb, eq-eqb, ne-eqb, eqb-true, not-false}
+use borrow.Author.Tests.{lt-ltb, le-ltb, eq-eqb, ne-eqb}
 use Rattle.refusal.proofs.Table.{Reached, reached-first, reached-next, reached-refused, reached-accepted}
 use Rattle.refusal.proofs.First.{first-refused, first-next}
-use Rattle.program.specs.Image.{ruleCount, headerLength, imageLength}
-use Rattle.program.specs.Rows.{row22, row26, programRows}
+use Rattle.wire.specs.Wire.{u32At}
+use Rattle.program.specs.Image.{ruleCount, isPacked, headerLength}
+use Rattle.program.specs.Rows.{totalKeeps, row22, row26, programRows}
 use Rattle.wire.proofs.Laws.{part-from}
 use borrow.Author.Needs.{needs}
 use Rattle.program.proofs.check.Statement.{statement}
@@ -39,23 +41,29 @@ image24 c = image23 (c .before .before .before .before .before)
 abbrev image25 : tie.Else6 → List ℕ
 image25 c = image24 (c .before)
 
--- K, as it was read
+-- K and the form, as they were read
 count : (c : tie.Else3) → c .before .before .before .before .before .u16-at2 .result ≡ ruleCount (image23 c)
 count c = c .before .before .before .before .before .u16-at2 .ensures .0
 
-wanted : (c : tie.After-image-length) → c .image-length .result ≡ imageLength (ruleCount (image23 (c .before .before)))
-wanted c = c .image-length .ensures ∙ rw (count (c .before .before))
+form : (c : tie.Else3) → eqb (c .before .u16-at4 .result) 1 ≡ isPacked (image23 c)
+form c = ap (λ n. eqb n 1) (c .before .u16-at4 .ensures .0)
 
 numbers : (c : tie.After-is-outside) → row22 (image21 (c .before .before .before .before)) .applies ≡ c .is-outside .result
 numbers c = sym (c .is-outside .ensures ∙ simp (c .before .u16-at3 .ensures .0, c .before .before .u16-at2 .ensures .0, c .before .before .before .u16-at .ensures .0))
 
--- the first broken rule is the place of row 26
+-- whether the form allows the total
+total : (c : tie.After-total-keeps) → let p = image23 (c .before .before .before .before) in c .total-keeps .result ≡ totalKeeps (isPacked p) (ruleCount p) (u32At p 12)
+total c =
+    let third = c .before .before .before .before in
+    rw (form third, count third, c .before .before .before .u32-at .ensures .0) at (c .total-keeps .ensures)
+
+-- the first place at which something is wrong is that of row 26
 broken : (c : tie.After-first-broken-rule) → c .first-broken-rule .result ≡ row26 (image25 (c .before .before)) .place
 broken c =
     let p = image25 (c .before .before) in
     let third = c .before .before .before .before .before .before .before .before in
     let size = third .before .before .before .before .before .before .u16-at .ensures .0 in
-    rw (part-from headerLength p, size, count third) at (c .first-broken-rule .ensures)
+    rw (part-from headerLength p, size, count third, form third) at (c .first-broken-rule .ensures)
 
 first : (c : tie.Start) → At 0 (image c)
 first c = reached-first (programRows (image c)) 1
@@ -70,14 +78,14 @@ past22 c = reached-next (past21 (c .before .before .before .before .before)) (nu
 
 past23 : (c : tie.Else3) → At 3 (image23 c)
 unfolding programRows
-past23 c = reached-next (past22 (c .before .before)) (rw (← c .before .u16-at4 .ensures .0, eq-eqb _ 0 (c .if3 .left)))
+past23 c = reached-next (past22 (c .before .before)) (rw (← c .before .u16-at4 .ensures .0) (le-ltb 1 _ (c .if3 .left)))
 
 past24 : (c : tie.Else5) → At 4 (image24 c)
 unfolding programRows
 past24 c =
-    let fields = c .before .before in
-    reached-next (past23 (fields .before .before .before))
-    (rw (← wanted (fields .before), ← fields .before .before .u32-at .ensures .0, ← fields .u32-at2 .ensures .0, eq-eqb _ headerLength (c .before .if4 .left)) (c .if5 .left))
+    let offset = c .before .before in
+    reached-next (past23 (offset .before .before .before))
+    (rw (← total (c .before), ← offset .before .u32-at2 .ensures .0, eq-eqb _ headerLength (offset .if4 .left)) (c .if5 .left))
 
 past25 : (c : tie.Else6) → At 5 (image25 c)
 unfolding programRows
@@ -121,16 +129,16 @@ returns-3 : tie.Need-returns-3
 unfolding programRows
 returns-3 c =
     let read = c .before .before in
-    reached-refused (past22 (read .before)) (rw (← read .u16-at4 .ensures .0, ne-eqb _ 0 (c .before .if3 .taken))) (c .refuse3 .ensures)
+    reached-refused (past22 (read .before)) (rw (← read .u16-at4 .ensures .0) (lt-ltb 1 _ (c .before .if3 .taken))) (c .refuse3 .ensures)
 
 u32-at-requires : tie.Need-u32-at-requires
 u32-at-requires c κs = search needs
 
-image-length-requires : tie.Need-image-length-requires
-image-length-requires c κs = search needs
-
 u32-at-requires-2 : tie.Need-u32-at-requires-2
 u32-at-requires-2 c κs = search needs
+
+total-keeps-requires : tie.Need-total-keeps-requires
+total-keeps-requires c κs = search needs
 
 refuse-requires-4 : tie.Need-refuse-requires-4
 refuse-requires-4 c κs = search needs
@@ -139,9 +147,10 @@ returns-4 : tie.Need-returns-4
 unfolding programRows
 returns-4 c =
     let fields = c .before .before in
-    reached-refused (past23 (fields .before .before .before))
-    (rw (← wanted (fields .before), ← fields .before .before .u32-at .ensures .0, ← fields .u32-at2 .ensures .0)
-    (⊎-elim (λ w. rw (ne-eqb _ headerLength (w .taken))) (λ w. rw (eq-eqb _ headerLength (w .0 .left)) (w .1 .taken)) (c .before .if4 .came)))
+    reached-refused (past23 (fields .before .before))
+    (rw (← fields .u32-at2 .ensures .0)
+    (⊎-elim (λ w. rw (ne-eqb _ headerLength (w .taken))) (λ w.
+    rw (eq-eqb _ headerLength (w .0 .left), ← total (record { before = record { before = fields; if4 = w .0 }; total-keeps = w .1 })) (w .2 .taken)) (c .before .if4 .came)))
     (c .refuse4 .ensures)
 
 refuse-requires-5 : tie.Need-refuse-requires-5
@@ -164,10 +173,7 @@ part-first-broken-rule-end : tie.Need-part-first-broken-rule-end
 part-first-broken-rule-end c = search needs
 
 first-broken-rule-requires : tie.Need-first-broken-rule-requires
-first-broken-rule-requires c κs =
-    let read = c .before .before .before .before .before in
-    let total : read .before .u32-at .result ≡ read .image-length .result = eqb-true _ _ (not-false _ (c .before .before .if5 .left)) in
-    rw (part-from, length-drop) (omega arith)
+first-broken-rule-requires c κs = search needs
 
 refuse-requires-6 : tie.Need-refuse-requires-6
 refuse-requires-6 c κs = search needs
@@ -177,7 +183,8 @@ unfolding programRows
 returns-6 c =
     let scan = c .before .before in
     let past = scan .before .before in
-    first-refused 26 (λ k. k) _ _ _ (broken scan) (past25 past) (rw (count (past .before .before .before .before .before .before)) at (c .before .if7 .taken)) (c .refuse6 .ensures)
+    let within = rw (count (past .before .before .before .before .before .before)) at (c .before .if7 .taken) in
+    first-refused 26 (λ k. k) _ _ _ (broken scan) (past25 past) (omega (arith, within)) (c .refuse6 .ensures)
 
 accept-requires : tie.Need-accept-requires
 accept-requires c κs = search needs
@@ -187,7 +194,8 @@ unfolding programRows
 returns-7 c =
     let scan = c .before .before in
     let past = scan .before .before in
-    reached-accepted (first-next 26 (λ k. k) _ _ _ (broken scan) (past25 past) (rw (count (past .before .before .before .before .before .before)) at (c .before .if7 .left))) (c .accept .ensures)
+    let behind = rw (count (past .before .before .before .before .before .before)) at (c .before .if7 .left) in
+    reached-accepted (first-next 26 (λ k. k) _ _ _ (broken scan) (past25 past) (omega (arith, behind))) (c .accept .ensures)
 
 pub check-spec : {M : Type 1} → statement M
 check-spec =
@@ -205,8 +213,8 @@ check-spec =
     refuse-requires-3
     returns-3
     u32-at-requires
-    image-length-requires
     u32-at-requires-2
+    total-keeps-requires
     refuse-requires-4
     returns-4
     refuse-requires-5

@@ -1,4 +1,5 @@
 -- `rule_bytes` gives the ten bytes of a rule: its counts as they are, and the two bytes of each slot. Assumes nothing.
+use Rattle.program.specs.Image.{slotBytes}
 use borrow.Author.Needs.{needs}
 use Rattle.program.proofs.rule_bytes.Statement.{statement}
 use Rattle.program.proofs.rule_bytes.Tie as tie
@@ -49,6 +50,7 @@ array-read-t37 : tie.Need-array-read-t37
 array-read-t37 c = search needs
 
 returns : tie.Need-returns
+unfolding slotBytes
 returns c = rw (c .before .before .u16-bytes .ensures, c .before .u16-bytes2 .ensures, c .u16-bytes3 .ensures)
 
 pub rule-bytes-spec : {M : Type 1} → statement M
