@@ -6,7 +6,7 @@ use Prim.Native.Nat.{ℕ, zero, suc, _+_, _*_, _≤_, _<_}
 use native.Mathlib.Omega.{arith}
 use lib.Dec.{eqb, ltb, leb}
 use lib.ListN.{length, getD, take, drop, length-append, List·getD-append, List·getD-eq-default}
-use lib.Seq.{getD-append-add, take-length, drop-append-seam, ext-getD}
+use lib.Seq.{getD-append-add, take-length, take-append-seam, drop-append-seam, ext-getD}
 use borrow.Author.Tests.{ltb-true, ltb-false, leb-true, lt-ltb, eq-eqb, le-leb, not-true}
 use Rattle.refusal.specs.Limits.{mostRules}
 use Rattle.refusal.specs.Table.{none}
@@ -18,7 +18,7 @@ use Rattle.wire.proofs.Sequence.{length-upTo, getD-upTo, upTo-equal}
 use Rattle.logic.proofs.Bools.{&&-split}
 use Rattle.program.specs.Rule.{Rule}
 use Rattle.program.specs.Program.{Program}
-use Rattle.program.specs.Image.{atomCount, sizeOf, ruleCount, isPacked, headerLength, ruleSection, mostLiterals, slotCount, slotAt, ruleAt, lengthAt, behind, rulesIn, slotKeeps, ruleKeeps, programOf, literals, literalTotal, slotBytes, ruleBytes, rulesBytes, header, imageOf}
+use Rattle.program.specs.Image.{atomCount, sizeOf, ruleCount, isPacked, totalOf, headerLength, ruleSection, mostLiterals, slotCount, slotAt, ruleAt, lengthAt, behind, rulesIn, slotKeeps, ruleKeeps, programOf, literals, literalTotal, slotBytes, ruleBytes, rulesBytes, header, imageOf}
 use Rattle.program.specs.Rows.{outside, totalKeeps, programRows}
 use Rattle.program.specs.Writable.{ruleWritable, rulesWritable, writable}
 use Rattle.program.proofs.Lengths.{length-countedBytes, literals-counted, length-rulesBytes, length-header, length-imageOf}
@@ -210,9 +210,12 @@ module _ (packed : Bool) (p : Program) (w : writable packed p ≡ true) where
   unfolding imageOf header
   offset-imageOf = refl
 
-  total-imageOf : u32At (imageOf packed p) 12 ≡ headerLength + length (rulesBytes packed (p .rules))
+  total-imageOf : (rest : List ℕ) → totalOf (imageOf packed p ++ rest) ≡ headerLength + length (rulesBytes packed (p .rules))
   unfolding imageOf header
-  total-imageOf = u32At-u32Bytes (headerLength + length (rulesBytes packed (p .rules))) (rules-small packed (p .size) (p .rules) (inside .count) (halves .1))
+  total-imageOf rest = u32At-u32Bytes (headerLength + length (rulesBytes packed (p .rules))) (rules-small packed (p .size) (p .rules) (inside .count) (halves .1))
+
+  total-alone : totalOf (imageOf packed p) ≡ headerLength + length (rulesBytes packed (p .rules))
+  total-alone = rw (append-nil (imageOf packed p)) at (total-imageOf [])
 
   -- It has the form that was chosen,
   pub isPacked-imageOf : isPacked (imageOf packed p) ≡ packed
@@ -225,8 +228,8 @@ module _ (packed : Bool) (p : Program) (w : writable packed p ≡ true) where
     inside = rw (atomCount-imageOf, sizeOf-imageOf, ruleCount-imageOf) inside;
     form = omega (arith, form-imageOf, form-small packed);
     offset = offset-imageOf;
-    total = rw (isPacked-imageOf, ruleCount-imageOf, total-imageOf) (total-kept packed (p .rules));
-    exact = length-imageOf packed p ∙ sym total-imageOf;
+    total = rw (isPacked-imageOf, ruleCount-imageOf, total-alone) (total-kept packed (p .rules));
+    exact = length-imageOf packed p ∙ sym total-alone;
     rules = rw (isPacked-imageOf, sizeOf-imageOf, ruleCount-imageOf, ruleSection-imageOf) (rulesBytes-whole packed (p .size) (omega (arith, inside .size)) (p .rules) (halves .1));
   })
 
@@ -235,3 +238,7 @@ module _ (packed : Bool) (p : Program) (w : writable packed p ≡ true) where
   unfolding programOf
   programOf-imageOf =
       rw (atomCount-imageOf, sizeOf-imageOf, isPacked-imageOf, ruleCount-imageOf, ruleSection-imageOf, rules-read packed (p .size) (omega (arith, inside .size)) (p .rules) (halves .1))
+
+  -- Whatever stands behind the image, its total tells where it ends.
+  pub imageOf-part : (rest : List ℕ) → take (totalOf (imageOf packed p ++ rest)) (imageOf packed p ++ rest) ≡ imageOf packed p
+  imageOf-part rest = rw (total-imageOf rest, ← length-imageOf packed p) (take-append-seam (imageOf packed p) rest)

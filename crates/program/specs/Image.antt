@@ -4,7 +4,7 @@ use mathlib.Core.List.{List, [], _∷_, _++_}
 use Prim.Native.Nat.{ℕ, zero, suc, _+_, _*_}
 use lib.Dec.{eqb, leb, ltb}
 use lib.ListN.{getD, length, drop}
-use Rattle.wire.specs.Wire.{u16At, u16Bytes, u32Bytes}
+use Rattle.wire.specs.Wire.{u16At, u32At, u16Bytes, u32Bytes}
 use Rattle.wire.specs.Sequence.{upTo}
 use Rattle.program.specs.Rule.{Rule}
 use Rattle.program.specs.Program.{Program}
@@ -22,6 +22,10 @@ ruleCount p = u16At p 4
 -- The form: bytes 6-7 are 1 in a packed image, and 0 in a fixed one.
 abbrev pub isPacked : List ℕ → Bool
 isPacked p = eqb (u16At p 6) 1
+
+-- The length of the whole image.
+abbrev pub totalOf : List ℕ → ℕ
+totalOf p = u32At p 12
 
 -- The header has 16 bytes,
 abbrev pub headerLength : ℕ

@@ -8,7 +8,7 @@ use Rattle.refusal.specs.Table.{Row}
 use Rattle.refusal.specs.First.{firstSuch}
 use Rattle.refusal.specs.Limits.{mostAtoms, mostB, mostRules}
 use Rattle.wire.specs.Wire.{u16At, u32At}
-use Rattle.program.specs.Image.{atomCount, sizeOf, ruleCount, isPacked, headerLength, ruleSection, behind, ruleKeeps}
+use Rattle.program.specs.Image.{atomCount, sizeOf, ruleCount, isPacked, totalOf, headerLength, ruleSection, behind, ruleKeeps}
 
 -- A, B or K is outside its limits.
 abbrev pub outside : (A B K : ℕ) → Bool
@@ -32,11 +32,11 @@ totalKeeps packed K total = cond packed (leb headerLength total) (eqb total (hea
 
 -- Row 24: the rule offset or the total length field differs.
 abbrev pub row24 : List ℕ → Row
-row24 p = record { number = 24; applies = not (eqb (u32At p 8) headerLength) || not (totalKeeps (isPacked p) (ruleCount p) (u32At p 12)); place = 0 }
+row24 p = record { number = 24; applies = not (eqb (u32At p 8) headerLength) || not (totalKeeps (isPacked p) (ruleCount p) (totalOf p)); place = 0 }
 
 -- Row 25: the image's length differs from the total; its place is the length wanted.
 abbrev pub row25 : List ℕ → Row
-row25 p = record { number = 25; applies = not (eqb (length p) (u32At p 12)); place = u32At p 12 }
+row25 p = record { number = 25; applies = not (eqb (length p) (totalOf p)); place = totalOf p }
 
 -- What is wrong at k: rule k does not keep to its form, or, where k is K, bytes are left behind the last rule.
 abbrev pub brokenAt : (packed : Bool) → (B K : ℕ) → List ℕ → (k : ℕ) → Bool

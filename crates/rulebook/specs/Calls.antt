@@ -1,6 +1,7 @@
 -- What each public call gives, for every input: number, place and result by the rows of the refusal table in their order, and every byte of its output.
 -- Behind each, its contract: what the answer has to be and, for a call that writes, what is left in its output.
 use mathlib.Core.Path.{_≡_}
+use mathlib.Core.Bool.{Bool}
 use mathlib.Core.List.{List, [], _∷_, _++_, map}
 use Prim.Native.Nat.{ℕ}
 use lib.ListN.{length}
@@ -62,16 +63,17 @@ evaluateProgram p r = answer (evaluateProgramRows p r) (yes (satisfiesProgram (r
 abbrev pub EvaluatesProgram : (program reading : List ℕ) → Answer → Type 0
 EvaluatesProgram p r a = a ≡ evaluateProgram p r
 
--- Translating: the theory's rows, 8; the result is K, and the bytes are the flat program's image.
-abbrev pub translateCallRows : (theory out : List ℕ) → List Row
-translateCallRows t out = theoryRows t ++ translateRows t (length out)
+-- Translating: the theory's rows, 8; the result is K, and the bytes are the flat program's image in the form chosen.
+abbrev pub translateCallRows : (theory : List ℕ) → (packed : Bool) → (out : List ℕ) → List Row
+translateCallRows t packed out = theoryRows t ++ translateRows packed t (length out)
 
-abbrev pub translate : (theory out : List ℕ) → Outcome
-translate t out = outcome (answer (translateCallRows t out) (ruleTotal t)) (written (translateCallRows t out) (imageOf (flat (bookOf t))) out)
+abbrev pub translate : (theory : List ℕ) → (packed : Bool) → (out : List ℕ) → Outcome
+translate t packed out =
+    outcome (answer (translateCallRows t packed out) (ruleTotal t)) (written (translateCallRows t packed out) (imageOf packed (flat (bookOf t))) out)
 
 -- Its contract.
-abbrev pub Translates : (theory out : List ℕ) → Answer → (left : List ℕ) → Type 0
-Translates t out a left = outcome a left ≡ translate t out
+abbrev pub Translates : (theory : List ℕ) → (packed : Bool) → (out : List ℕ) → Answer → (left : List ℕ) → Type 0
+Translates t packed out a left = outcome a left ≡ translate t packed out
 
 -- Extending: the theory's rows, 9, 10, 8; the result is B, and the bytes are the reading's and then each label's value.
 abbrev pub extendCallRows : (theory reading out : List ℕ) → List Row

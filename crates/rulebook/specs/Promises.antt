@@ -3,7 +3,7 @@ use mathlib.Core.Path.{_≡_, refl, sym, _∙_}
 use mathlib.Core.Logic.{_↔_, _⊎_}
 use mathlib.Core.Bool.{Bool, true, false, not, _&&_, cond}
 use mathlib.Core.List.{List, _∷_, _++_, map, List·Memᴰ}
-use Prim.Native.Nat.{ℕ, suc, min, max, _/_, _%_, _≤_, _<_}
+use Prim.Native.Nat.{ℕ, suc, min, max, _+_, _/_, _%_, _≤_, _<_}
 use native.Mathlib.Omega.{arith}
 use lib.Dec.{ltb, leb, eqb}
 use lib.ListN.{length, getD, take, drop}
@@ -40,11 +40,11 @@ use Rattle.theory.proofs.Used as Uses
 use Rattle.theory.proofs.BenchCases as books
 use Rattle.program.specs.Rule.{Rule, holds, ruleFormula}
 use Rattle.program.specs.Program.{Program, satisfiesProgram, programFormulas}
-use Rattle.program.specs.Image.{sizeOf, ruleCount, ruleSection, ruleKeeps, imageLength, programOf, imageOf}
-use Rattle.program.specs.Rows.{row26, programRows}
+use Rattle.program.specs.Image.{sizeOf, ruleCount, isPacked, totalOf, ruleSection, programOf, literalTotal, imageLength, imageOf}
+use Rattle.program.specs.Rows.{brokenAt, row26, programRows}
 use Rattle.program.specs.Writable.{writable}
 use Rattle.program.proofs.Rows.{numbered-programRows}
-use Rattle.program.proofs.Lengths.{length-imageOf}
+use Rattle.program.proofs.Lengths.{length-imageOf, length-rulesBytes}
 use Rattle.program.proofs.Rules
 use Rattle.program.proofs.Reading as ReadingBack
 use Rattle.program.proofs.Writing
@@ -96,11 +96,11 @@ evaluateProgram-unique p r a b d e = d ∙ sym e
 evaluateProgram-exact : (p r : List ℕ) → Exact (evaluateProgramRows p r) (yes (satisfiesProgram (readingOf r) (programOf p))) (evaluateProgram p r)
 evaluateProgram-exact p r = unfold programRows argumentRows in answer-exact (evaluateProgramRows p r) _ refl
 
-translate-unique : (t o : List ℕ) (a b : Answer) (left right : List ℕ) → Translates t o a left → Translates t o b right → (a ≡ b) × (left ≡ right)
-translate-unique t o a b left right d e = Outcome.outcome-both (d ∙ sym e)
+translate-unique : (t : List ℕ) (packed : Bool) (o : List ℕ) (a b : Answer) (left right : List ℕ) → Translates t packed o a left → Translates t packed o b right → (a ≡ b) × (left ≡ right)
+translate-unique t packed o a b left right d e = Outcome.outcome-both (d ∙ sym e)
 
-translate-exact : (t o : List ℕ) → Exact (translateCallRows t o) (ruleTotal t) (translate t o .answer)
-translate-exact t o = unfold theoryRows formRows headerRows translateRows in answer-exact (translateCallRows t o) _ refl
+translate-exact : (t : List ℕ) (packed : Bool) (o : List ℕ) → Exact (translateCallRows t packed o) (ruleTotal t) (translate t packed o .answer)
+translate-exact t packed o = unfold theoryRows formRows headerRows translateRows in answer-exact (translateCallRows t packed o) _ refl
 
 extend-unique : (t r o : List ℕ) (a b : Answer) (left right : List ℕ) → ExtendsReading t r o a left → ExtendsReading t r o b right → (a ≡ b) × (left ≡ right)
 extend-unique t r o a b left right d e = Outcome.outcome-both (d ∙ sym e)
@@ -128,12 +128,12 @@ listSets-exact t o = unfold theoryRows formRows headerRows setsRows in answer-ex
 
 -- A refusal leaves the output as it was; an acceptance writes the bytes and leaves those past them.
 
-translate-refused : (t o : List ℕ) → (translate t o .answer .number ≡ 0 → ⊥) → translate t o .out ≡ o
-translate-refused t o = Outcome.written-refused (translateCallRows t o) (ruleTotal t) (imageOf (flat (bookOf t))) o
+translate-refused : (t : List ℕ) (packed : Bool) (o : List ℕ) → (translate t packed o .answer .number ≡ 0 → ⊥) → translate t packed o .out ≡ o
+translate-refused t packed o = Outcome.written-refused (translateCallRows t packed o) (ruleTotal t) (imageOf packed (flat (bookOf t))) o
 
-translate-accepted : (t o : List ℕ) → none (translateCallRows t o) ≡ true → let p = imageOf (flat (bookOf t)) in
-    (take (length p) (translate t o .out) ≡ p) × (drop (length p) (translate t o .out) ≡ drop (length p) o)
-translate-accepted t o = Outcome.written-accepted (translateCallRows t o) (imageOf (flat (bookOf t))) o
+translate-accepted : (t : List ℕ) (packed : Bool) (o : List ℕ) → none (translateCallRows t packed o) ≡ true → let p = imageOf packed (flat (bookOf t)) in
+    (take (length p) (translate t packed o .out) ≡ p) × (drop (length p) (translate t packed o .out) ≡ drop (length p) o)
+translate-accepted t packed o = Outcome.written-accepted (translateCallRows t packed o) (imageOf packed (flat (bookOf t))) o
 
 extend-refused : (t r o : List ℕ) → (extend t r o .answer .number ≡ 0 → ⊥) → extend t r o .out ≡ o
 extend-refused t r o = Outcome.written-refused (extendCallRows t r o) (flat (bookOf t) .size) (map number (extension (bookOf t) (readingOf r))) o
@@ -154,7 +154,8 @@ row6-first : (t : List ℕ) → row6 t .applies ≡ true → let node = row6 t .
     FirstAt (breaks (atomCount t) (nodeSection t)) (nodeCount t) node × FirstAt (fieldWrong (atomCount t) (nodeSection t) node) 4 (row6 t .place % 8)
 row6-first = Rows.row6-first
 
--- The place of 7 is the first such root, that of 15 the first such pair, that of 13 the first node that is not used, that of 26 the first such rule, that of 10 the first such index.
+-- The place of 7 is the first such root, that of 15 the first such pair, that of 13 the first node that is not used, that of 10 the first such index; that of 26 is the first such rule,
+-- and K where every rule is sound and bytes are left behind the last.
 
 row7-first : (t : List ℕ) → row7 t .applies ≡ true → FirstAt (λ i. not (ltb (rootIn (rootSection t) i) (nodeCount t))) (rootCount t) (row7 t .place)
 row7-first t = first-is (λ i. not (ltb (rootIn (rootSection t) i) (nodeCount t))) (rootCount t)
@@ -165,8 +166,8 @@ row15-first t = first-is (λ i. not (pairFits (atomCount t) (pairIn (pairSection
 row13-first : (t : List ℕ) → row13 t .applies ≡ true → FirstAt (λ k. not (used (bookOf t) k)) (nodeCount t) (row13 t .place)
 row13-first t = first-is (λ k. not (used (bookOf t) k)) (nodeCount t)
 
-row26-first : (p : List ℕ) → row26 p .applies ≡ true → FirstAt (λ k. not (ruleKeeps (sizeOf p) (ruleSection p) k)) (ruleCount p) (row26 p .place)
-row26-first p = first-is (λ k. not (ruleKeeps (sizeOf p) (ruleSection p) k)) (ruleCount p)
+row26-first : (p : List ℕ) → row26 p .applies ≡ true → FirstAt (brokenAt (isPacked p) (sizeOf p) (ruleCount p) (ruleSection p)) (ruleCount p + 1) (row26 p .place)
+row26-first p = first-is (brokenAt (isPacked p) (sizeOf p) (ruleCount p) (ruleSection p)) (ruleCount p + 1)
 
 row10-first : (candidate : Bool) (r : List ℕ) → row10 candidate r .applies ≡ true → FirstAt (λ i. wrong candidate (getD r i 0)) (length r) (row10 candidate r .place)
 row10-first candidate r = first-is (λ i. wrong candidate (getD r i 0)) (length r)
@@ -211,16 +212,16 @@ accepted-rules t ok = let h = Sections.accepted-total t ok in (h, omega arith)
 
 -- Refusal 14, for a B over its limit, is gone: no call's answer has the number, and a row that refuses only such a B, behind those of the theory, changes no outcome.
 
-never-14 : (t p r c o : List ℕ)
-    → (checkTheory t .number ≡ 14 → ⊥) × (evaluateTheory t r .number ≡ 14 → ⊥) × (translate t o .answer .number ≡ 14 → ⊥)
+never-14 : (t p r c o : List ℕ) (packed : Bool)
+    → (checkTheory t .number ≡ 14 → ⊥) × (evaluateTheory t r .number ≡ 14 → ⊥) × (translate t packed o .answer .number ≡ 14 → ⊥)
     × (extend t r o .answer .number ≡ 14 → ⊥) × (testTheory t c .number ≡ 14 → ⊥) × (listSets t o .answer .number ≡ 14 → ⊥)
     × (checkProgram p .number ≡ 14 → ⊥) × (evaluateProgram p r .number ≡ 14 → ⊥) × (testProgram p c .number ≡ 14 → ⊥)
 unfolding theoryRows formRows headerRows programRows argumentRows translateRows extendRows setsRows
-never-14 t p r c o =
+never-14 t p r c o packed =
     let never : (rows : List Row) (x : ℕ) → unused 14 rows ≡ true → answer rows x .number ≡ 14 → ⊥ = λ rows x h. answer-unused 14 rows x h (λ e. omega arith) in (
       never (theoryRows t) _ refl,
       never (evaluateTheoryRows t r) _ refl,
-      never (translateCallRows t o) _ refl,
+      never (translateCallRows t packed o) _ refl,
       never (extendCallRows t r o) _ refl,
       never (testTheoryRows t c) _ refl,
       never (listSetsRows t o) _ refl,
@@ -230,9 +231,10 @@ never-14 t p r c o =
     )
 
 module _ (t : List ℕ) (over : Row) (only : over .applies ≡ true → mostB < flat (bookOf t) .size) where
-  translate-without : (o : List ℕ) → let rows = theoryRows t ++ over ∷ translateRows t (length o) in
-      outcome (answer rows (ruleTotal t)) (written rows (imageOf (flat (bookOf t))) o) ≡ translate t o
-  translate-without o = Outcome.outcome-idle (theoryRows t) over (translateRows t (length o)) (ruleTotal t) (imageOf (flat (bookOf t))) o (λ ok. Writable.over-idle t ok over only)
+  translate-without : (packed : Bool) (o : List ℕ) → let rows = theoryRows t ++ over ∷ translateRows packed t (length o) in
+      outcome (answer rows (ruleTotal t)) (written rows (imageOf packed (flat (bookOf t))) o) ≡ translate t packed o
+  translate-without packed o =
+      Outcome.outcome-idle (theoryRows t) over (translateRows packed t (length o)) (ruleTotal t) (imageOf packed (flat (bookOf t))) o (λ ok. Writable.over-idle t ok over only)
 
   extend-without : (r o : List ℕ) → let rows = theoryRows t ++ over ∷ extendRows t r (length o) in
       outcome (answer rows (flat (bookOf t) .size)) (written rows (map number (extension (bookOf t) (readingOf r))) o) ≡ extend t r o
@@ -273,15 +275,21 @@ paired b = PairLaws.pairs-strike (b .atoms) (map (formulaAt (nodeFormulas b)) (b
 rule : (J : Reading) (r : Rule) → (holds (valueOf J) r ≡ true) ↔ (value J (ruleFormula r) ≡ Both)
 rule = Rules.rule-iff
 
--- Reading what was written gives the same A, B and rules; writing what was read gives the same bytes.
+-- In either form: an image that was written is accepted, has that form and is as long as its rules and literals say; reading it gives the same A, B and rules; and writing what was read gives the same bytes.
 
-read-written : (p : Program) → writable p ≡ true → programOf (imageOf p) ≡ p
-read-written = ReadingBack.programOf-imageOf
-
-written-accepted : (p : Program) → writable p ≡ true → none (programRows (imageOf p)) ≡ true
+written-accepted : (packed : Bool) (p : Program) → writable packed p ≡ true → none (programRows (imageOf packed p)) ≡ true
 written-accepted = ReadingBack.imageOf-accepted
 
-written-read : (p : List ℕ) → Bytes p → none (programRows p) ≡ true → imageOf (programOf p) ≡ p
+written-form : (packed : Bool) (p : Program) → writable packed p ≡ true → isPacked (imageOf packed p) ≡ packed
+written-form = ReadingBack.isPacked-imageOf
+
+written-length : (packed : Bool) (p : Program) → length (imageOf packed p) ≡ imageLength packed (length (p .rules)) (literalTotal (p .rules))
+written-length packed p = length-imageOf packed p ∙ length-rulesBytes packed (p .rules)
+
+read-written : (packed : Bool) (p : Program) → writable packed p ≡ true → programOf (imageOf packed p) ≡ p
+read-written = ReadingBack.programOf-imageOf
+
+written-read : (p : List ℕ) → Bytes p → none (programRows p) ≡ true → imageOf (isPacked p) (programOf p) ≡ p
 written-read = Writing.imageOf-programOf
 
 -- A candidate test's result, and the listing: exactly the answer sets, ascending by number.
@@ -317,27 +325,27 @@ module _ (b : Book) (ok : WellFormed b) where
       → OneToOne (b .atoms) (flat b .size) (bookFormulas b ++ Γ) (programFormulas (flat b) ++ Γ)
   one-to-one = Demand3.one-to-one b ok
 
--- Demand 3 of the bytes. A translation that no row refuses leaves the program p at the start of its output, 16 + 10K bytes.
+-- Demand 3 of the bytes, in either form. A translation that no row refuses leaves the program p at the start of its output, as long as its total length field says.
 
-module _ (t o : List ℕ) (ok : none (translateCallRows t o) ≡ true) where
+module _ (t : List ℕ) (packed : Bool) (o : List ℕ) (ok : none (translateCallRows t packed o) ≡ true) where
   abbrev p : List ℕ
-  p = take (imageLength (translate t o .answer .result)) (translate t o .out)
-
-  translate-wrote : p ≡ imageOf (flat (bookOf t))
-  translate-wrote = Outcome.written-part (translateCallRows t o) (ruleTotal t) imageLength (imageOf (flat (bookOf t))) o (length-imageOf (flat (bookOf t))) ok
+  p = let left = translate t packed o .out in take (totalOf left) left
 
   theory-accepted : none (theoryRows t) ≡ true
-  theory-accepted = none-split (theoryRows t) (translateRows t (length o)) ok .0
+  theory-accepted = none-split (theoryRows t) (translateRows packed t (length o)) ok .0
+
+  translate-wrote : p ≡ imageOf packed (flat (bookOf t))
+  translate-wrote = Bytes.program-part t theory-accepted packed o _ (Outcome.written-over (translateCallRows t packed o) (imageOf packed (flat (bookOf t))) o ok)
 
   translate-checked : checkProgram p ≡ accepted 1
-  translate-checked = answer-none (programRows p) 1 (Bytes.program-accepted t theory-accepted p translate-wrote)
+  translate-checked = answer-none (programRows p) 1 (Bytes.program-accepted t theory-accepted packed p translate-wrote)
 
   translate-read-back : programOf p ≡ flat (bookOf t)
-  translate-read-back = Bytes.program-read t theory-accepted p translate-wrote
+  translate-read-back = Bytes.program-read t theory-accepted packed p translate-wrote
 
   bytes-one-to-one : (Γ : List Formula) → AllOver (atomCount t) Γ
       → OneToOne (atomCount t) (sizeOf p) (bookFormulas (bookOf t) ++ Γ) (programFormulas (programOf p) ++ Γ)
-  bytes-one-to-one = Bytes.bytes-one-to-one t theory-accepted p translate-wrote
+  bytes-one-to-one = Bytes.bytes-one-to-one t theory-accepted packed p translate-wrote
 
   -- An extension that no row refuses leaves the reading x of atoms and labels, B bytes: the program answers on it what the theory answers on r,
   -- and it is the only one that goes on from r and satisfies the program.
@@ -350,13 +358,18 @@ module _ (t o : List ℕ) (ok : none (translateCallRows t o) ≡ true) where
     reading-accepted = Bytes.extendRows-reading t r (length e) (none-split (theoryRows t) (extendRows t r (length e)) fits .1)
 
     extend-wrote : x ≡ map number (extension (bookOf t) (readingOf r))
-    extend-wrote = Outcome.written-part (extendCallRows t r e) (flat (bookOf t) .size) (λ n. n) _ e (Labels.length-extension t r theory-accepted reading-accepted) fits
+    extend-wrote = Outcome.written-part (extendCallRows t r e) _ e (Labels.length-extension t r theory-accepted reading-accepted) fits
 
     bytes-satisfied : evaluateProgram p x ≡ evaluateTheory t r
-    bytes-satisfied = Bytes.bytes-evaluated t theory-accepted p translate-wrote r reading-accepted x extend-wrote
+    bytes-satisfied = Bytes.bytes-evaluated t theory-accepted packed p translate-wrote r reading-accepted x extend-wrote
 
     bytes-only-one : (j : List ℕ) → evaluateProgram p j ≡ accepted 1 → take (atomCount t) j ≡ r → j ≡ x
-    bytes-only-one = Bytes.bytes-only-one t theory-accepted p translate-wrote r reading-accepted x extend-wrote
+    bytes-only-one = Bytes.bytes-only-one t theory-accepted packed p translate-wrote r reading-accepted x extend-wrote
+
+-- The two forms of one book are read as the same program.
+forms-alike : (t o w : List ℕ) (fixed : none (translateCallRows t false o) ≡ true) (packed : none (translateCallRows t true w) ≡ true)
+    → programOf (p t false o fixed) ≡ programOf (p t true w packed)
+forms-alike t o w fixed packed = translate-read-back t false o fixed ∙ sym (translate-read-back t true w packed)
 
 -- P1 to P9, and three books with a pair: one table, one claim; and the same of their flat programs, labels dropped.
 

@@ -30,16 +30,16 @@ pub extern "C" fn rulebook_evaluate_theory(theory: &[u8], reading: &[u8]) -> Ans
     refusal::accept(result_of(holds))
 }
 
-// Translates a theory into a flat program image.
+// Translates a theory into a flat program image, packed or fixed.
 #[no_mangle]
-pub extern "C" fn rulebook_translate(theory: &[u8], out: &mut [u8]) -> Answer
-    ensures { λ r. ⌜ Translates (now (theory .entry)) (now (out .entry)) r (now (out .exit)) ⌝ }
+pub extern "C" fn rulebook_translate(theory: &[u8], packed: bool, out: &mut [u8]) -> Answer
+    ensures { λ r. ⌜ Translates (now (theory .entry)) packed (now (out .entry)) r (now (out .exit)) ⌝ }
 {
     let image = theory::check(theory);
     if image.number != 0 {
         return image;
     }
-    translation::translate(theory, out)
+    translation::translate(theory, packed, out)
 }
 
 // Extends a reading of a theory's atoms to the labels of its flat program.

@@ -24,10 +24,12 @@ pub written-accepted : (rows : List Row) (bytes out : List ℕ) → none rows �
     → (take (length bytes) (written rows bytes out) ≡ bytes) × (drop (length bytes) (written rows bytes out) ≡ drop (length bytes) out)
 written-accepted rows bytes out n = rw n (take-over bytes out, drop-over bytes out)
 
--- so where the result x tells the length of the bytes by f, that part of the output is what was written
-pub written-part : (rows : List Row) (x : ℕ) (f : ℕ → ℕ) (bytes out : List ℕ) → length bytes ≡ f x → none rows ≡ true
-    → take (f (answer rows x .result)) (written rows bytes out) ≡ bytes
-written-part rows x f bytes out e n = rw (answer-none rows x n, ← e) (written-accepted rows bytes out n .0)
+pub written-over : (rows : List Row) (bytes out : List ℕ) → none rows ≡ true → written rows bytes out ≡ over bytes out
+written-over rows bytes out n = rw n
+
+-- so where the result is the length of the bytes, that part of the output is what was written
+pub written-part : (rows : List Row) (bytes out : List ℕ) {x : ℕ} → length bytes ≡ x → none rows ≡ true → take (answer rows x .result) (written rows bytes out) ≡ bytes
+written-part rows bytes out {x = x} e n = rw (answer-none rows x n, ← e) (written-accepted rows bytes out n .0)
 
 module _ (rs qs : List Row) (bytes out : List ℕ) (y : ℕ) where
   pub outcome-refused : (x : ℕ) {a : Answer} → a ≡ answer rs x → (a .number ≡ 0 → ⊥) → outcome a out ≡ outcome (answer (rs ++ qs) y) (written (rs ++ qs) bytes out)

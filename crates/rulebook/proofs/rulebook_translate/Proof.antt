@@ -26,7 +26,7 @@ check-requires c κs = search needs
 returns : tie.Need-returns
 returns c =
     let args = c .before .before .before .before .before .args in
-    outcome-refused (theoryRows _) (translateRows (now (args .theory)) (length (now (args .out)))) (imageOf (flat (bookOf (now (args .theory))))) (now (args .out)) _ 1
+    outcome-refused (theoryRows _) (translateRows (args .packed) (now (args .theory)) (length (now (args .out)))) (imageOf (args .packed) (flat (bookOf (now (args .theory))))) (now (args .out)) _ 1
     (c .before .before .check .ensures) (c .if1 .taken)
 
 translate-requires : tie.Need-translate-requires
@@ -41,7 +41,7 @@ returns-2 c =
     let call = c .before .before in
     let past = call .before .before in
     let args = past .before .before .before .before .before .args in
-    outcome-past (theoryRows _) (translateRows (now (args .theory)) (length (now (args .out)))) (imageOf (flat (bookOf (now (args .theory))))) (now (args .out)) _
+    outcome-past (theoryRows _) (translateRows (args .packed) (now (args .theory)) (length (now (args .out)))) (imageOf (args .packed) (flat (bookOf (now (args .theory))))) (now (args .out)) _
     (image past) (call .translate .ensures .0) (call .translate .ensures .1)
 
 pub rulebook-translate-spec : {M : Type 1} → statement M
