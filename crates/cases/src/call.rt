@@ -5,6 +5,7 @@ pub enum Call {
     CheckTheory,
     EvaluateTheory,
     Translate,
+    TranslatePacked,
     Extend,
     TestTheory,
     ListSets,
@@ -53,6 +54,7 @@ fn of_letters(first: u8, second: u8) -> Call {
             b't' => Call::TestTheory,
             b'p' => Call::TestProgram,
             b'r' => Call::Translate,
+            b'k' => Call::TranslatePacked,
             _ => Call::Unknown,
         },
         b'l' => match second {
@@ -68,7 +70,7 @@ pub fn shape(call: Call) -> u8 {
         Call::CheckTheory | Call::CheckProgram => NOTHING,
         Call::EvaluateTheory | Call::TestTheory | Call::EvaluateProgram | Call::TestProgram =>
             READING,
-        Call::Translate | Call::ListSets => OUTPUT,
+        Call::Translate | Call::TranslatePacked | Call::ListSets => OUTPUT,
         Call::Extend => BOTH,
         Call::Unknown => NO_CALL,
     }
@@ -79,7 +81,8 @@ pub fn answer(call: Call, image: &[u8], reading: &[u8], out: &mut [u8]) -> Answe
     match call {
         Call::CheckTheory => rulebook::rulebook_check_theory(image),
         Call::EvaluateTheory => rulebook::rulebook_evaluate_theory(image, reading),
-        Call::Translate => rulebook::rulebook_translate(image, out),
+        Call::Translate => rulebook::rulebook_translate(image, false, out),
+        Call::TranslatePacked => rulebook::rulebook_translate(image, true, out),
         Call::Extend => rulebook::rulebook_extend(image, reading, out),
         Call::TestTheory => rulebook::rulebook_test_theory(image, reading),
         Call::ListSets => rulebook::rulebook_list_sets(image, out),

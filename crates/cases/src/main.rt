@@ -2,9 +2,9 @@
 //
 // A line is the two letters of a call and then its arguments, with one space between any two words. An argument is
 // bytes in hex, each alone or with `*` and how often it stands. `/` begins the reading, and `>` the length of the output, which
-// holds the byte aa throughout before the call. `p` stands for the program image that the last accepted translation wrote, and `x`
-// for the reading that the last accepted extension wrote. An empty line and a line that begins with `#` are printed as they stand;
-// a line that is malformed is named by its number. The first 262,144 bytes of a script are run.
+// holds the byte aa throughout before the call. `p` stands for the program image that the last accepted translation wrote, into
+// either form, and `x` for the reading that the last accepted extension wrote. An empty line and a line that begins with `#` are
+// printed as they stand; a line that is malformed is named by its number. The first 327,680 bytes of a script are run.
 use call::Call;
 use libc::STDIN_FILENO;
 use refusal::Answer;
@@ -27,7 +27,7 @@ enum Outcome {
 }
 
 fn main() {
-    let mut script = [0u8; 262144];
+    let mut script = [0u8; 327680];
     let length = io::read_full(STDIN_FILENO, &mut script);
     run(&script[..length]);
 }
@@ -129,8 +129,8 @@ fn keep(
         return kept;
     }
     match call {
-        Call::Translate => Kept {
-            program: words::append(words::first(out, program_length(answer.result)), program, 0),
+        Call::Translate | Call::TranslatePacked => Kept {
+            program: words::append(words::first(out, program_length(out)), program, 0),
             extension: kept.extension,
         },
         Call::Extend => Kept {
@@ -141,10 +141,10 @@ fn keep(
     }
 }
 
-// The bytes of a program image of so many rules.
-fn program_length(rules: usize) -> usize {
-    if refusal::MOST_RULES < rules {
+// The bytes of a program image of either form: the total of its header, which for a translation is below 65,536.
+fn program_length(image: &[u8]) -> usize {
+    if image.len() < 16 {
         return words::TOO_MANY;
     }
-    16 + 10 * rules
+    words::wide(image[13]) % 256 * 256 + words::wide(image[12]) % 256
 }

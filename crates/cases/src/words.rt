@@ -217,7 +217,7 @@ fn decimal(word: &[u8]) -> usize {
     value
 }
 
-fn wide(byte: u8) -> usize
+pub fn wide(byte: u8) -> usize
     ensures { λ r. ⌜ r ≡ byte ⌝ }
 {
     byte as usize
