@@ -141,10 +141,10 @@ fn keep(
     }
 }
 
-// The bytes of a program image of either form: the total of its header, which for a translation is below 65,536.
+// The bytes of a program image of either form: the total of its header.
 fn program_length(image: &[u8]) -> usize {
     if image.len() < 16 {
         return words::TOO_MANY;
     }
-    words::wide(image[13]) % 256 * 256 + words::wide(image[12]) % 256
+    wire::u32_at(image, 12)
 }

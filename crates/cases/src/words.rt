@@ -217,7 +217,7 @@ fn decimal(word: &[u8]) -> usize {
     value
 }
 
-pub fn wide(byte: u8) -> usize
+fn wide(byte: u8) -> usize
     ensures { λ r. ⌜ r ≡ byte ⌝ }
 {
     byte as usize
