@@ -5,14 +5,15 @@
  *     list BOOK..
  *
  * For each book: its name; then `sets` and their number, and a line for each set (the number
- * of its atoms, then the atoms); then B, the number of rules and the bytes of its flat program.
+ * of its atoms, then the atoms); then B, the number of rules and the bytes of its flat program,
+ * in the fixed form and packed.
  * A refusal is one line: `refused`, number, place. The exit status is 0 if every file was read
  * and nothing was refused, 1 if not, and 2 if no book was named.
  */
 #include <stdio.h>
 #include "rulebook.h"
 
-/* The longest image, the bytes of 4,096 sets, and the longest program of a book. */
+/* The longest image, the bytes of 4,096 sets, and the longest program of a book, which is a fixed one. */
 enum { LONGEST = 7184, ROOM = 8192, PROGRAM = 65236 };
 
 /* One byte more than the longest image: a file that fills it is too long, and refused by row 5 or an earlier one. */
@@ -23,6 +24,12 @@ static uint8_t program[PROGRAM];
 static unsigned number_at(const uint8_t *bytes, size_t at)
 {
     return bytes[at] | (unsigned)bytes[at + 1] << 8;
+}
+
+/* The bytes of the program, which its header states. */
+static unsigned long program_length(void)
+{
+    return number_at(program, 12) | (unsigned long)number_at(program, 14) << 16;
 }
 
 static void print_set(unsigned set)
@@ -57,10 +64,13 @@ static int show(size_t length)
         for (size_t i = 0; i < listed.result; i++)
             print_set(number_at(sets, 2 * i));
     }
-    struct rulebook_answer flat = rulebook_translate(image, length, program, sizeof program);
+    struct rulebook_answer flat = rulebook_translate(image, length, false, program, sizeof program);
     if (refused(flat))
         return 1;
-    printf("program B %u, %zu rules, %zu bytes\n", number_at(program, 2), flat.result, 16 + 10 * flat.result);
+    unsigned long fixed = program_length();
+    if (refused(rulebook_translate(image, length, true, program, sizeof program)))
+        return 1;
+    printf("program B %u, %zu rules, %lu bytes, packed %lu\n", number_at(program, 2), flat.result, fixed, program_length());
     return status;
 }
 
