@@ -5,15 +5,17 @@ use mathlib.Core.List.{List, [], _∷_, _++_, map, append-assoc}
 use Prim.Native.Nat.{ℕ, _+_, _≤_, _<_}
 use native.Mathlib.Omega.{arith}
 use lib.Dec.{ltb}
-use lib.ListN.{getD}
+use lib.ListN.{length, getD, length-map}
 use borrow.Author.Tests.{ltb-true, ne-eqb}
 use Rattle.logic.proofs.Bools.{&&-split}
 use Rattle.wire.specs.Sequence.{upTo}
 use Rattle.wire.proofs.Sequence.{length-upTo, upTo-equal, map-upTo, upTo-append, getD-upTo-cond}
 use Rattle.program.specs.Rule.{RuleOf}
+use Rattle.program.specs.Image.{literalTotal}
+use Rattle.program.proofs.Lengths.{literals-counted}
 use Rattle.flat.specs.Table.{Slot, x, y, L, M}
-use Rattle.flat.specs.Flat.{name, has, names, mapRule, removes}
-use Rattle.table.specs.Shapes.{slotOf, slotNumber, slotsFrom, shapeRule, Fillable}
+use Rattle.flat.specs.Flat.{name, has, names, mapRule, removes, reduce, simplify}
+use Rattle.table.specs.Shapes.{rowLiterals, slotOf, slotNumber, slotsFrom, shapeRule, Fillable}
 use Rattle.table.specs.OneRule.{falseTerm, trueTerm, decode, filled, ruleIn, allNames, nameIn, madeOf}
 use Rattle.table.proofs.OneRule.{slotNumber-slotOf}
 
@@ -56,6 +58,14 @@ module _ (terms : List ℕ) (all : allNames terms ≡ true) where
   names-filled : (l : List Slot) → names (map (filled terms) l) ≡ map (numberIn terms) l
   names-filled [] = refl
   names-filled (s ∷ l) = rw (filled-name s) (ap (λ ns. numberIn terms s ∷ ns) (names-filled l))
+
+  -- So all literals of a row stay.
+  pub literals-filled : (r : RuleOf Slot) → literalTotal (simplify (mapRule (filled terms) r)) ≡ rowLiterals r
+  literals-filled r =
+      rw (removes-filled r) (omega (arith, literals-counted (reduce (mapRule (filled terms) r)), same (r .heads), same (r .positives), same (r .negatives)))
+    where
+      same : (l : List Slot) → length (names (map (filled terms) l)) ≡ length l
+      same l = rw (names-filled l, length-map)
 
   module _ (s : List ℕ) (ok : Fillable s) where
     -- How many heads, positives and negatives a shape has.

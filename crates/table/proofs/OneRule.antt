@@ -1,5 +1,5 @@
 -- Literals that are added one by one leave what simplifying the whole rule leaves: by induction on their number. Assumes nothing.
-use mathlib.Core.Path.{_≡_, refl, ap, _∙_}
+use mathlib.Core.Path.{_≡_, refl, sym, ap, _∙_}
 use mathlib.Core.Bool.{Bool, true, false, not, _||_, or-true, or-false, or-assoc}
 use mathlib.Core.List.{List, [], _∷_, _++_, map, append-assoc, append-nil}
 use Prim.Native.Nat.{ℕ, zero, suc, _+_, _-_, _≤_, _<_}
@@ -12,12 +12,13 @@ use Rattle.refusal.proofs.Table.{cases}
 use Rattle.wire.specs.Sequence.{upTo}
 use Rattle.wire.proofs.Sequence.{length-upTo, map-upTo, upTo-equal}
 use Rattle.program.specs.Rule.{RuleOf}
-use Rattle.program.specs.Image.{ruleBytes, rulesBytes}
-use Rattle.flat.specs.Flat.{Term, constant, name, has, names, removes, simplify, fact}
+use Rattle.program.specs.Image.{slotCount, literals, literalTotal, slotBytes, ruleBytes, rulesBytes}
+use Rattle.program.proofs.Lengths.{literals-counted}
+use Rattle.flat.specs.Flat.{Term, constant, name, has, names, removes, reduce, simplify, fact}
 use Rattle.table.specs.declared.Literals.{Literals}
 use Rattle.table.specs.declared.Made.{Made}
 use Rattle.table.specs.Shapes.{slotOf, slotNumber, slotsFrom, Fillable}
-use Rattle.table.specs.OneRule.{falseTerm, trueTerm, code, decode, filled, ruleIn, added, addedTo, firstThree, madeOf, madeCount, madeBytes}
+use Rattle.table.specs.OneRule.{falseTerm, trueTerm, code, decode, filled, ruleIn, added, addedTo, firstThree, madeOf, madeUsed, Few, madeCount, madeLiterals, madeBytes}
 
 -- ---- the terms of numbers
 
@@ -170,17 +171,21 @@ finish-parts r =
     let f : length (h ++ p ++ n) - length (h ++ p) ≡ length n = rw length-append (omega arith) in
     rw (e, f, append-assoc)
 
--- A rule that was made has no more literals than it had.
-pub madeOf-few : (r : RuleOf Term) → (madeOf r .heads ≤ length (r .heads)) × (madeOf r .positives ≤ length (r .positives)) × (madeOf r .negatives ≤ length (r .negatives))
+-- A rule that was made has no more literals than it had: three at most where a row is filled,
+made-le : (r : RuleOf Term) → madeUsed (madeOf r) ≤ length (r .heads) + length (r .positives) + length (r .negatives)
 unfolding madeOf
-madeOf-few r = (length-names (r .heads), length-names (r .positives), length-names (r .negatives))
+made-le r = omega (arith, length-names (r .heads), length-names (r .positives), length-names (r .negatives))
 
-pub length-ruleIn : (s terms : List ℕ) → let r = ruleIn s terms in
-    (length (r .heads) ≡ getD s 0 0) × (length (r .positives) ≡ getD s 1 0) × (length (r .negatives) ≡ getD s 2 0)
-length-ruleIn s terms = (count 3 (getD s 0 0), count (3 + getD s 0 0) (getD s 1 0), count (3 + getD s 0 0 + getD s 1 0) (getD s 2 0))
+pub ruleIn-few : (s terms : List ℕ) → Fillable s → Few (madeOf (ruleIn s terms))
+ruleIn-few s terms ok =
+    omega (arith, made-le (ruleIn s terms), count 3 (getD s 0 0), count (3 + getD s 0 0) (getD s 1 0), count (3 + getD s 0 0 + getD s 1 0) (getD s 2 0), ok .few)
   where
     count : (start n : ℕ) → length (map (filled terms) (slotsFrom s start n)) ≡ n
     count start n = length-map (slotsFrom s start n) (filled terms) ∙ length-upTo (λ j. slotOf (getD s (start + j) 0)) n
+
+-- and one of a fact.
+pub fact-few : (t : Term) → Few (madeOf (fact t))
+fact-few t = omega (arith, made-le (fact t))
 
 -- A fact is its one head.
 pub fact-made : (n : ℕ) → let l = added (state false []) trueTerm n in
@@ -188,12 +193,30 @@ pub fact-made : (n : ℕ) → let l = added (state false []) trueTerm n in
 unfolding madeOf
 fact-made n = rw (added-state false true [] n (omega arith)) (simp (or-false, append-nil))
 
--- ---- what is written of it
+-- ---- what stays of it
 
 pub madeCount-madeOf : (r : RuleOf Term) → madeCount (madeOf r) ≡ length (simplify r)
 unfolding madeOf
 madeCount-madeOf r = cases (removes r) (λ t. rw t) (λ f. rw f)
 
-pub madeBytes-madeOf : (r : RuleOf Term) → madeBytes (madeOf r) ≡ rulesBytes (simplify r)
+pub madeLiterals-madeOf : (r : RuleOf Term) → madeLiterals (madeOf r) ≡ literalTotal (simplify r)
+unfolding madeOf
+madeLiterals-madeOf r = cases (removes r) (λ t. rw t) (λ f. rw f (omega (arith, literals-counted (reduce r))))
+
+-- The first three literals are all that slots of three are written from.
+slotBytes-firstThree : (l : List ℕ) (n : ℕ) → n ≤ 3 → slotBytes (firstThree l) n ≡ slotBytes l n
+unfolding slotBytes
+slotBytes-firstThree l zero h = refl
+slotBytes-firstThree l (suc zero) h = refl
+slotBytes-firstThree l (suc (suc zero)) h = refl
+slotBytes-firstThree l (suc (suc (suc zero))) h = refl
+slotBytes-firstThree l (suc (suc (suc (suc n)))) h = absurd (omega arith)
+
+slotCount-few : (packed : Bool) (n : ℕ) → n ≤ 3 → slotCount packed n ≤ 3
+slotCount-few true n h = h
+slotCount-few false n h = omega arith
+
+pub madeBytes-madeOf : (packed : Bool) (r : RuleOf Term) → Few (madeOf r) → madeBytes packed (madeOf r) ≡ rulesBytes packed (simplify r)
 unfolding madeOf rulesBytes ruleBytes
-madeBytes-madeOf r = cases (removes r) (λ t. rw t) (λ f. rw f)
+madeBytes-madeOf packed r few = cases (removes r) (λ t. rw t)
+    (λ f. rw (f, slotBytes-firstThree (literals (reduce r)) _ (slotCount-few packed _ few)) (sym (append-nil _)))

@@ -11,7 +11,7 @@ use Rattle.wire.specs.Sequence.{upTo}
 use Rattle.theory.specs.Image.{kindOf}
 use Rattle.flat.specs.Table.{rows, labelCount}
 use Rattle.flat.proofs.ByKind.{labelCount-le}
-use Rattle.table.specs.Shapes.{shapes, firstRow, rowCount, labelsOf, shapeRule, kindShape, KindIn, Fillable}
+use Rattle.table.specs.Shapes.{shapes, firstRow, rowCount, labelsOf, literalsOf, rowsLiterals, shapeRule, kindShape, KindIn, Fillable}
 
 -- What holds at each of the numbers 0 to 6 holds at each number below 7.
 kinds-cases : (P : ℕ → Type 0) → P 0 → P 1 → P 2 → P 3 → P 4 → P 5 → P 6 → (k : ℕ) → k < 7 → P k
@@ -29,9 +29,12 @@ pub shapes-rows : (k : ℕ) → k < 7 → upTo (λ j. shapeRule (kindShape k j))
 unfolding upTo
 shapes-rows = kinds-cases (λ k. upTo (λ j. shapeRule (kindShape k j)) (rowCount k) ≡ rows (kindOf k)) refl refl refl refl refl refl refl
 
--- and its labels are counted.
+-- and its labels and its literals are counted.
 pub labels-count : (k : ℕ) → k < 7 → labelsOf k ≡ labelCount (kindOf k)
 labels-count = kinds-cases (λ k. labelsOf k ≡ labelCount (kindOf k)) refl refl refl refl refl refl refl
+
+pub literals-count : (k : ℕ) → k < 7 → literalsOf k ≡ rowsLiterals (rows (kindOf k))
+literals-count = kinds-cases (λ k. literalsOf k ≡ rowsLiterals (rows (kindOf k))) refl refl refl refl refl refl refl
 
 -- A row has at most three literals, and its slots name x, y, L or M.
 shape-fillable : (i : ℕ) → i < 14 → Fillable (getD shapes i [])

@@ -1,11 +1,11 @@
 -- One rule as the code makes it: terms as numbers, and literals added one by one. Notes on the code, which no public promise names.
 use mathlib.Core.Bool.{Bool, true, false, not, _&&_, cond}
 use mathlib.Core.List.{List, [], _∷_}
-use Prim.Native.Nat.{ℕ, zero, suc, _+_}
+use Prim.Native.Nat.{ℕ, zero, suc, _+_, _≤_}
 use lib.Dec.{eqb, ltb}
 use lib.ListN.{getD, length, set}
 use Rattle.program.specs.Rule.{RuleOf}
-use Rattle.program.specs.Image.{literals, tenBytes}
+use Rattle.program.specs.Image.{literals, countedBytes}
 use Rattle.flat.specs.Table.{Slot}
 use Rattle.flat.specs.Flat.{Term, constant, name, mapRule, removes, reduce}
 use Rattle.table.specs.declared.Literals.{Literals}
@@ -74,10 +74,22 @@ madeOf r = record {
   slots = firstThree (literals (reduce r));
 }
 
--- How many rules stay of one: it, or none.
+-- How many literals it has,
+abbrev pub madeUsed : Made → ℕ
+madeUsed m = m .heads + m .positives + m .negatives
+
+-- and that they are three at most.
+abbrev pub Few : Made → Type 0
+Few m = madeUsed m ≤ 3
+
+-- How many rules stay of one: it, or none;
 abbrev pub madeCount : Made → ℕ
 madeCount m = cond (m .kept) 1 0
 
--- The bytes that stay of it.
-abbrev pub madeBytes : Made → List ℕ
-madeBytes m = cond (m .kept) (tenBytes (m .heads) (m .positives) (m .negatives) (m .slots)) []
+-- how many literals,
+abbrev pub madeLiterals : Made → ℕ
+madeLiterals m = cond (m .kept) (madeUsed m) 0
+
+-- and the bytes of what stays.
+abbrev pub madeBytes : (packed : Bool) → Made → List ℕ
+madeBytes packed m = cond (m .kept) (countedBytes packed (m .heads) (m .positives) (m .negatives) (m .slots)) []

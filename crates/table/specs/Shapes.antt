@@ -4,7 +4,7 @@ use mathlib.Core.Bool.{cond}
 use mathlib.Core.List.{List, [], _∷_}
 use Prim.Native.Nat.{ℕ, _+_, _≤_, _<_}
 use lib.Dec.{eqb}
-use lib.ListN.{getD}
+use lib.ListN.{length, getD}
 use Rattle.wire.specs.Sequence.{upTo}
 use Rattle.program.specs.Rule.{RuleOf}
 use Rattle.flat.specs.Table.{Slot, x, y, L, M}
@@ -32,12 +32,12 @@ shapes =
     shape 0 2 0 3 1 0 ∷  -- ← M, y
     []
 
--- Of each kind from 0 to 6 its first row, its number of rows and its number of labels.
-abbrev kindRow : (first count labels : ℕ) → List ℕ
-kindRow f c l = f ∷ c ∷ l ∷ []
+-- Of each kind from 0 to 6 its first row, its number of rows, its number of labels and its rows' number of literals.
+abbrev kindRow : (first count labels literals : ℕ) → List ℕ
+kindRow f c l n = f ∷ c ∷ l ∷ n ∷ []
 
 abbrev pub kinds : List (List ℕ)
-kinds = kindRow 0 0 0 ∷ kindRow 0 0 0 ∷ kindRow 0 0 0 ∷ kindRow 0 2 1 ∷ kindRow 2 3 1 ∷ kindRow 5 3 1 ∷ kindRow 8 6 2 ∷ []
+kinds = kindRow 0 0 0 0 ∷ kindRow 0 0 0 0 ∷ kindRow 0 0 0 0 ∷ kindRow 0 2 1 4 ∷ kindRow 2 3 1 7 ∷ kindRow 5 3 1 7 ∷ kindRow 8 6 2 14 ∷ []
 
 abbrev pub firstRow : (kind : ℕ) → ℕ
 firstRow k = getD (getD kinds k []) 0 0
@@ -50,6 +50,17 @@ labelsIn index k = getD (getD index k []) 2 0
 
 abbrev pub labelsOf : (kind : ℕ) → ℕ
 labelsOf k = labelsIn kinds k
+
+abbrev pub literalsOf : (kind : ℕ) → ℕ
+literalsOf k = getD (getD kinds k []) 3 0
+
+-- How many literals rows have.
+abbrev pub rowLiterals : RuleOf Slot → ℕ
+rowLiterals r = length (r .heads) + length (r .positives) + length (r .negatives)
+
+abbrev pub rowsLiterals : List (RuleOf Slot) → ℕ
+rowsLiterals [] = 0
+rowsLiterals (r ∷ rs) = rowLiterals r + rowsLiterals rs
 
 -- A table and an index of the kinds are these, and the kind is one of theirs.
 pub record KindIn (table index : List (List ℕ)) (kind : ℕ) : Type 0 where

@@ -6,7 +6,7 @@ ghost use lib.ListN.{length, getD};
 ghost use Rattle.wire.specs.Wire.{over};
 ghost use Rattle.flat.specs.Flat.{fact};
 ghost use Rattle.table.specs.Shapes.{shapes, kinds, Named, Fillable};
-ghost use Rattle.table.specs.OneRule.{decode, ruleIn, allNames, nameIn, added, addedTo, madeOf, madeBytes};
+ghost use Rattle.table.specs.OneRule.{decode, ruleIn, allNames, nameIn, added, addedTo, madeOf, Few, madeLiterals, madeBytes};
 
 // What may stand in a slot: the terms x of left and y of right, the node's label L, and M, the label for the negation of right.
 const X: u8 = 0;
@@ -35,15 +35,15 @@ const SHAPES: [[u8; 6]; 14] = [
     [0, 2, 0, M, Y, 0],
 ];
 
-// Of each kind its first row, its number of rows and its number of labels.
-const KINDS: [[u8; 3]; 7] = [
-    [0, 0, 0],
-    [0, 0, 0],
-    [0, 0, 0],
-    [0, 2, 1],
-    [2, 3, 1],
-    [5, 3, 1],
-    [8, 6, 2],
+// Of each kind its first row, its number of rows, its number of labels and its rows' number of literals.
+const KINDS: [[u8; 4]; 7] = [
+    [0, 0, 0, 0],
+    [0, 0, 0, 0],
+    [0, 0, 0, 0],
+    [0, 2, 1, 4],
+    [2, 3, 1, 7],
+    [5, 3, 1, 7],
+    [8, 6, 2, 14],
 ];
 
 // The table, and the index of the kinds: those of the definitions.
@@ -53,7 +53,7 @@ pub fn shapes() -> [[u8; 6]; 14]
     SHAPES
 }
 
-pub fn kinds() -> [[u8; 3]; 7]
+pub fn kinds() -> [[u8; 4]; 7]
     ensures { λ r. ⌜ r ≡ kinds ⌝ }
 {
     KINDS
@@ -223,6 +223,18 @@ pub fn stays(kept: bool) -> usize
     if kept { 1 } else { 0 }
 }
 
+// How many literals of it stay.
+pub fn literals_of(made: Made) -> usize
+    requires { ⌜ Few made ⌝ }
+    ensures { λ r. ⌜ (r ≡ madeLiterals made) × (r ≤ 3) ⌝ }
+{
+    if made.kept {
+        made.heads + made.positives + made.negatives
+    } else {
+        0
+    }
+}
+
 // The fact that holds a term, if it stays.
 pub fn fact_of(term: usize) -> Made
     ensures { λ r. ⌜ r ≡ madeOf (fact (decode term)) ⌝ }
@@ -244,15 +256,21 @@ pub fn fact_of(term: usize) -> Made
 }
 
 // Writes what stays of a rule over the start of `out`, and gives how many bytes that is.
-pub fn put_rule(out: &mut [u8], made: Made) -> usize
-    requires { ⌜ (made .heads < 256) × (made .positives < 256) × (made .negatives < 256) × (length (madeBytes made) ≤ length (now out)) ⌝ }
-    ensures { λ r. ⌜ r ≡ length (madeBytes made) ⌝ }
-    ensures { λ _. ⌜ now (out .exit) ≡ over (madeBytes made) (now (out .entry)) ⌝ }
+pub fn put_rule(out: &mut [u8], packed: bool, made: Made) -> usize
+    requires { ⌜ Few made × (length (madeBytes packed made) ≤ length (now out)) ⌝ }
+    ensures { λ r. ⌜ r ≡ length (madeBytes packed made) ⌝ }
+    ensures { λ _. ⌜ now (out .exit) ≡ over (madeBytes packed made) (now (out .entry)) ⌝ }
 {
     if !made.kept {
         return 0;
     }
     let slots = made.slots;
-    let bytes = program::rule_bytes(made.heads, made.positives, made.negatives, slots);
-    wire::put(out, &bytes)
+    program::put_rule(
+        out,
+        packed,
+        made.heads,
+        made.positives,
+        made.negatives,
+        slots,
+    )
 }

@@ -1,14 +1,15 @@
 -- Demand 3 of the bytes: the flat program of an accepted image passes the program check and reads back, so what was proved of book and program holds of the images and of the extension's bytes.
 use mathlib.Core.Path.{_≡_, refl, sym, ap, _∙_}
-use mathlib.Core.Bool.{true, false}
+use mathlib.Core.Bool.{Bool, true, false}
 use mathlib.Core.List.{List, [], _∷_, _++_, map}
 use Prim.Native.Nat.{ℕ}
-use lib.ListN.{length, getD, take, length-map, List·getD-map}
+use lib.ListN.{length, getD, take, drop, length-map, List·getD-map}
 use borrow.Author.Tests.{le-ltb}
 use Rattle.refusal.specs.Table.{none, yes, answer, accepted}
 use Rattle.refusal.specs.Rows.{wrong, row8, argumentRows, readingRows}
 use Rattle.refusal.proofs.Table.{answer-both, answer-yes, none-split}
 use Rattle.refusal.proofs.Rows.{none-argumentRows, argumentRows-none}
+use Rattle.wire.specs.Wire.{over}
 use Rattle.logic.specs.declared.Value.the-variants.{Neither}
 use Rattle.logic.specs.Value.{number, ofByte}
 use Rattle.logic.specs.Formula.{Formula, Reading, readingOf, satisfies, AllOver}
@@ -21,7 +22,7 @@ use Rattle.theory.proofs.Accepted
 use Rattle.logic.proofs.Formulas.{readingOf-number}
 use Rattle.logic.proofs.Lists.{take-map}
 use Rattle.program.specs.Program.{Program, satisfiesProgram, programFormulas}
-use Rattle.program.specs.Image.{sizeOf, programOf, imageOf}
+use Rattle.program.specs.Image.{sizeOf, totalOf, programOf, imageOf}
 use Rattle.program.specs.Rows.{programRows}
 use Rattle.flat.specs.Flat.{flat}
 use Rattle.flat.specs.Extension.{extend, Extends}
@@ -30,7 +31,7 @@ use Rattle.flat.proofs.Extensions.{length-extend}
 use Rattle.flat.proofs.Demand3.{extension-satisfies, extension-only, one-to-one}
 use Rattle.translation.specs.Outcome.{extendRows}
 use Rattle.translation.proofs.Labels.{reading-bytes, atoms-bookOf, readingOf-long}
-use Rattle.translation.proofs.Writable.{translated-accepted, translated-read}
+use Rattle.translation.proofs.Writable.{translated-accepted, translated-read, translated-part}
 
 -- Bytes of readings.
 
@@ -45,14 +46,19 @@ pub extendRows-reading : (t r : List ℕ) (room : ℕ) → none (extendRows t r 
 unfolding extendRows
 extendRows-reading t r room h = none-split (readingRows (atomCount t) r) (row8 (flat (bookOf t) .size) room ∷ []) h .0
 
--- A theory image that the check accepts, and the image of its program.
-module _ (t : List ℕ) (ok : none (theoryRows t) ≡ true) (p : List ℕ) (wrote : p ≡ imageOf (flat (bookOf t))) where
+-- Of an output over whose start the program of an accepted theory image was written, the image's part is as long as its total says.
+pub program-part : (t : List ℕ) → none (theoryRows t) ≡ true → (packed : Bool) (o left : List ℕ) → left ≡ over (imageOf packed (flat (bookOf t))) o
+    → take (totalOf left) left ≡ imageOf packed (flat (bookOf t))
+program-part t ok packed o left e = rw e (translated-part t ok packed (drop (length (imageOf packed (flat (bookOf t)))) o))
+
+-- A theory image that the check accepts, and the image of its program in either form.
+module _ (t : List ℕ) (ok : none (theoryRows t) ≡ true) (packed : Bool) (p : List ℕ) (wrote : p ≡ imageOf packed (flat (bookOf t))) where
   -- The program's check accepts it, and reading it gives the flat program.
   pub program-accepted : none (programRows p) ≡ true
-  program-accepted = rw wrote (translated-accepted t ok)
+  program-accepted = rw wrote (translated-accepted t ok packed)
 
   pub program-read : programOf p ≡ flat (bookOf t)
-  program-read = rw wrote (translated-read t ok)
+  program-read = rw wrote (translated-read t ok packed)
 
   size-is : sizeOf p ≡ flat (bookOf t) .size
   unfolding programOf

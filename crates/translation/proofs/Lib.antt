@@ -1,4 +1,5 @@
 pub mod Turns
+pub mod Counting
 pub mod NodeTerms
 pub mod Writing
 pub mod Sections

@@ -72,6 +72,10 @@ pub record Known (A : ℕ) (s : List ℕ) (k : ℕ) (index : List (List ℕ)) (k
   pub few : labelsIn index kind ≤ 2
   pub low : nextTo A s k ≤ mostB
 
+-- The first nodes of such a section are one.
+pub nodes-first : (A : ℕ) (s : List ℕ) (k N : ℕ) → k ≤ N → Nodes A s N → Nodes A s k
+nodes-first A s k N h ok = record { few-atoms = ok .few-atoms; few = omega (arith, ok .few); long = omega (arith, ok .long); keep = λ i l. ok .keep i (omega arith) }
+
 module _ (A : ℕ) (s : List ℕ) (N : ℕ) (ok : Nodes A s N) where
   pub kind-known : (k : ℕ) → k < N → getD s (k * 6) 0 < 7
   kind-known k h = kept-known A s k (ok .keep k h)

@@ -1,6 +1,6 @@
 -- What translation and extension answer at each of their returns, by the rows' tests. Assumes nothing.
 use mathlib.Core.Path.{_≡_, refl, sym}
-use mathlib.Core.Bool.{true}
+use mathlib.Core.Bool.{Bool, true}
 use mathlib.Core.List.{List, [], _∷_, map}
 use Prim.Native.Nat.{ℕ, _≤_, _<_}
 use lib.ListN.{length}
@@ -14,23 +14,26 @@ use Rattle.wire.proofs.Outcome.{outcome-both, outcome-refused}
 use Rattle.logic.specs.Value.{number}
 use Rattle.logic.specs.Formula.{readingOf}
 use Rattle.theory.specs.Image.{atomCount, bookOf}
-use Rattle.program.specs.Image.{imageLength, imageOf}
+use Rattle.program.specs.Image.{imageOf}
 use Rattle.flat.specs.Flat.{flat}
 use Rattle.flat.specs.Extension.{extend}
 use Rattle.translation.specs.Outcome.{sizeOf, ruleTotal, translateRows, translated, extendRows, extended}
 
-module _ (t out : List ℕ) where
+module _ (packed : Bool) (t out : List ℕ) where
+  abbrev image : List ℕ
+  image = imageOf packed (flat (bookOf t))
+
   -- The room is too short: row 8 refuses.
-  pub translate-short : length out < imageLength (ruleTotal t)
-      → (answer (translateRows t (length out)) (ruleTotal t) ≡ refused 8 (imageLength (ruleTotal t))) × (translated t out ≡ out)
+  pub translate-short : length out < length image
+      → (answer (translateRows packed t (length out)) (ruleTotal t) ≡ refused 8 (length image)) × (translated packed t out ≡ out)
   unfolding translateRows translated
-  translate-short l = rw (lt-ltb (length out) (imageLength (ruleTotal t)) l) (refl, refl)
+  translate-short l = rw (lt-ltb (length out) (length image) l) (refl, refl)
 
   -- No row applies.
-  pub translate-all : imageLength (ruleTotal t) ≤ length out
-      → (answer (translateRows t (length out)) (ruleTotal t) ≡ accepted (ruleTotal t)) × (translated t out ≡ over (imageOf (flat (bookOf t))) out)
+  pub translate-all : length image ≤ length out
+      → (answer (translateRows packed t (length out)) (ruleTotal t) ≡ accepted (ruleTotal t)) × (translated packed t out ≡ over image out)
   unfolding translateRows translated
-  translate-all l = rw (le-ltb (length out) (imageLength (ruleTotal t)) l) (refl, refl)
+  translate-all l = rw (le-ltb (length out) (length image) l) (refl, refl)
 
 module _ (t reading out : List ℕ) where
   abbrev rows : List Row

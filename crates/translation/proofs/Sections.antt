@@ -1,6 +1,6 @@
 -- The sections of an image that the check accepts keep what the loops over them ask. From what each row leaves. Assumes nothing.
 use mathlib.Core.Path.{_≡_}
-use mathlib.Core.Bool.{true}
+use mathlib.Core.Bool.{Bool, true}
 use mathlib.Core.List.{List, _++_}
 use Prim.Native.Nat.{ℕ, _+_, _*_, _≤_}
 use native.Mathlib.Omega.{arith}
@@ -48,11 +48,6 @@ module _ (t : List ℕ) (ok : none (theoryRows t) ≡ true) where
       flat-rules t (scratchTerm scratch)
       (λ i h. scratch-term (atomCount t) (nodeSection t) (nodeCount t) nodes-accepted scratch numbered (rootIn (rootSection t) i) (roots-accepted .below i h))
 
-  -- K by its parts.
-  pub ruleTotal-parts : (scratch : List ℕ) → Numbered t scratch
-      → ruleTotal t ≡ length (rulesTo (atomCount t) (nodeSection t) (nodeCount t)) + length (factsTo (scratchTerm scratch) (rootSection t) (rootCount t)) + pairCount t
-  ruleTotal-parts scratch numbered = rw (accepted-rules scratch numbered, length-append, length-append, length-upTo)
-
   -- K is at most 6 * 1,023 + 256 + 128, as of every book within the limits.
   pub accepted-total : ruleTotal t ≤ largestK
   unfolding bookOf
@@ -64,13 +59,13 @@ module _ (t : List ℕ) (ok : none (theoryRows t) ≡ true) where
       (rw (length-upTo (pairIn (pairSection t)) (pairCount t)) (header .few-pairs))
 
   -- Their bytes, one part behind the other.
-  pub accepted-bytes : (scratch : List ℕ) → Numbered t scratch
-      → rulesBytes (flat (bookOf t) .rules)
-      ≡ (rulesBytes (rulesTo (atomCount t) (nodeSection t) (nodeCount t)) ++ rulesBytes (factsTo (scratchTerm scratch) (rootSection t) (rootCount t)))
-      ++ rulesBytes (pairsTo (pairSection t) (pairCount t))
-  accepted-bytes scratch numbered = rw (accepted-rules scratch numbered, rulesBytes-append, rulesBytes-append)
+  pub accepted-bytes : (packed : Bool) (scratch : List ℕ) → Numbered t scratch
+      → rulesBytes packed (flat (bookOf t) .rules)
+      ≡ (rulesBytes packed (rulesTo (atomCount t) (nodeSection t) (nodeCount t)) ++ rulesBytes packed (factsTo (scratchTerm scratch) (rootSection t) (rootCount t)))
+      ++ rulesBytes packed (pairsTo (pairSection t) (pairCount t))
+  accepted-bytes packed scratch numbered = rw (accepted-rules scratch numbered, rulesBytes-append, rulesBytes-append)
 
-  pub accepted-fit : (scratch : List ℕ) → Numbered t scratch → (room : ℕ) → length (rulesBytes (flat (bookOf t) .rules)) ≤ room
-      → length (rulesBytes (rulesTo (atomCount t) (nodeSection t) (nodeCount t))) + length (rulesBytes (factsTo (scratchTerm scratch) (rootSection t) (rootCount t)))
-      + length (rulesBytes (pairsTo (pairSection t) (pairCount t))) ≤ room
-  accepted-fit scratch numbered room h = rw (length-append, length-append) at (rw (accepted-bytes scratch numbered) at h)
+  pub accepted-fit : (packed : Bool) (scratch : List ℕ) → Numbered t scratch → (room : ℕ) → length (rulesBytes packed (flat (bookOf t) .rules)) ≤ room
+      → length (rulesBytes packed (rulesTo (atomCount t) (nodeSection t) (nodeCount t))) + length (rulesBytes packed (factsTo (scratchTerm scratch) (rootSection t) (rootCount t)))
+      + length (rulesBytes packed (pairsTo (pairSection t) (pairCount t))) ≤ room
+  accepted-fit packed scratch numbered room h = rw (length-append, length-append) at (rw (accepted-bytes packed scratch numbered) at h)

@@ -1,6 +1,5 @@
 -- Laws of what the loops have after so many turns: one turn more, and after the last turn the flat program. By induction on the nodes. Assumes nothing.
 use mathlib.Core.Path.{_≡_, refl, sym, ap, ap₂, _∙_}
-use mathlib.Core.Bool.{true}
 use mathlib.Core.List.{List, [], _∷_, _++_, append-assoc, append-nil}
 use Prim.Native.Nat.{ℕ, zero, suc, _+_, _≤_, _<_}
 use native.Mathlib.Decide.{le-ind}
@@ -9,16 +8,15 @@ use native.Mathlib.Numerals.{add-one}
 use native.Mathlib.Omega.{arith}
 use lib.ListN.{length, length-append}
 use Rattle.wire.specs.Sequence.{upTo}
-use Rattle.wire.proofs.Sequence.{upTo-none, upTo-more, length-upTo, map-upTo}
+use Rattle.wire.proofs.Sequence.{upTo-none, upTo-more, map-upTo}
 use Rattle.theory.specs.Book.{Node}
-use Rattle.theory.specs.Image.{atomCount, nodeCount, rootCount, pairCount, nodeSection, rootSection, pairSection, kindOf, nodeIn, rootIn, pairIn, bookOf}
+use Rattle.theory.specs.Image.{atomCount, nodeCount, rootCount, pairCount, nodeSection, rootSection, pairSection, nodeIn, rootIn, pairIn, bookOf}
 use Rattle.program.specs.Rule.{RuleOf}
-use Rattle.flat.specs.Table.{Slot, rows, labelCount}
+use Rattle.flat.specs.Table.{Slot, labelCount}
 use Rattle.flat.specs.Flat.{Term, simplify, mapRule, instances, termAt, nodeRules, term, fact, facts, pairRule, rulesFrom, labelTotal, flat}
 use Rattle.table.specs.Shapes.{rowCount, shapeRule, kindShape}
-use Rattle.table.specs.OneRule.{filled, ruleIn, allNames}
+use Rattle.table.specs.OneRule.{filled, ruleIn}
 use Rattle.table.proofs.Rows.{shapes-rows}
-use Rattle.table.proofs.Names.{removes-filled}
 use Rattle.translation.specs.Turns.{termsFrom, nodesRules, nextTo, termsTo, rulesTo, factsTo, pairsTo, kindRules, rowsTo, labelBytes, labelsTo}
 
 -- ---- one node more, behind a list of nodes
@@ -115,15 +113,6 @@ module _ (terms : List ℕ) (kind : ℕ) where
   pub rowsTo-all : kind < 7 → rowsTo terms kind (rowCount kind) ≡ kindRules terms kind
   unfolding rowsTo
   rowsTo-all h = ap (instances (filled terms)) (shapes-rows kind h)
-
--- Where x, y, L and M are all names every row's rule stays: a kind has as many rules as rows.
-module _ (terms : List ℕ) (all : allNames terms ≡ true) where
-  length-instances : (rs : List (RuleOf Slot)) → length (instances (filled terms) rs) ≡ length rs
-  length-instances [] = refl
-  length-instances (r ∷ rs) = rw (removes-filled terms all r) (ap suc (length-instances rs))
-
-  pub kindRules-names : (kind : ℕ) → kind < 7 → rowCount kind ≡ length (kindRules terms kind)
-  kindRules-names kind h = sym (length-upTo (λ j. shapeRule (kindShape kind j)) (rowCount kind)) ∙ ap length (shapes-rows kind h) ∙ sym (length-instances (rows (kindOf kind)))
 
 module _ (values s : List ℕ) where
   pub labelsTo-none : labelsTo values s 0 ≡ []

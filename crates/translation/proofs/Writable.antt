@@ -7,7 +7,7 @@ use native.Mathlib.Decide.{le-ind}
 use native.Mathlib.Numerals.{add-one}
 use native.Mathlib.Omega.{arith}
 use lib.Dec.{leb, ltb}
-use lib.ListN.{length, length-append, length-map}
+use lib.ListN.{length, take, length-append, length-map}
 use borrow.Author.Tests.{lt-ltb, le-ltb, le-leb, leb-true}
 use Rattle.refusal.specs.Limits.{mostAtoms, mostB, mostRules}
 use Rattle.refusal.specs.Table.{Row, none}
@@ -19,13 +19,13 @@ use Rattle.theory.specs.Rows.{theoryRows}
 use Rattle.theory.proofs.Accepted.{accepted, accepted-wellFormed}
 use Rattle.theory.proofs.PairLaws.{pair-below}
 use Rattle.program.specs.Rule.{RuleOf, Rule}
-use Rattle.program.specs.Image.{literals, programOf, imageOf}
+use Rattle.program.specs.Image.{totalOf, mostLiterals, programOf, literals, imageOf}
 use Rattle.program.specs.Rows.{outside, programRows}
 use Rattle.wire.specs.Sequence.{upTo}
 use Rattle.wire.specs.Wire.{allBelow}
 use Rattle.wire.proofs.Sequence.{length-upTo}
 use Rattle.program.specs.Writable.{ruleWritable, rulesWritable, writable}
-use Rattle.program.proofs.Reading.{imageOf-accepted, programOf-imageOf}
+use Rattle.program.proofs.Reading.{imageOf-accepted, programOf-imageOf, imageOf-part}
 use Rattle.flat.specs.Table.{Slot, x, y, L, M, rows, labelCount}
 use Rattle.flat.specs.Flat.{Term, constant, name, names, removes, reduce, simplify, fill, fact, mapRule, instances, termAt, pairRule, flat, largestB}
 use Rattle.flat.proofs.Sizes.{size-bound}
@@ -42,13 +42,18 @@ allBelow-append : (B : ℕ) (l m : List ℕ) → allBelow B l ≡ true → allBe
 allBelow-append B [] m h k = k
 allBelow-append B (a ∷ l) m h k = let s = &&-split (ltb a B) (allBelow B l) h in &&-join (s .0) (allBelow-append B l m (s .1) k)
 
-rulesWritable-append : (B : ℕ) (rs qs : List Rule) → rulesWritable B rs ≡ true → rulesWritable B qs ≡ true → rulesWritable B (rs ++ qs) ≡ true
-rulesWritable-append B [] qs h k = k
-rulesWritable-append B (r ∷ rs) qs h k =
-    let s = &&-split (ruleWritable B r) (rulesWritable B rs) h in
-    &&-join (s .0) (rulesWritable-append B rs qs (s .1) k)
+rulesWritable-append : (packed : Bool) (B : ℕ) (rs qs : List Rule) → rulesWritable packed B rs ≡ true → rulesWritable packed B qs ≡ true → rulesWritable packed B (rs ++ qs) ≡ true
+rulesWritable-append packed B [] qs h k = k
+rulesWritable-append packed B (r ∷ rs) qs h k =
+    let s = &&-split (ruleWritable packed B r) (rulesWritable packed B rs) h in
+    &&-join (s .0) (rulesWritable-append packed B rs qs (s .1) k)
 
 -- ---- one rule
+
+-- Either form allows three literals.
+three-allowed : (packed : Bool) (n : ℕ) → n ≤ 3 → n ≤ mostLiterals packed
+three-allowed true n h = omega arith
+three-allowed false n h = h
 
 -- Each term of the list that is a name is below B.
 abbrev AllBelow : ℕ → List Term → Type 0
@@ -60,14 +65,14 @@ names-below B [] h = refl
 names-below B (constant b ∷ ts) h = names-below B ts (h .1)
 names-below B (name a ∷ ts) h = &&-join (lt-ltb a B (h .0)) (names-below B ts (h .1))
 
-simplify-writable : (B : ℕ) (r : RuleOf Term) → length (r .heads) + (length (r .positives) + length (r .negatives)) ≤ 3
-    → AllBelow B (r .heads) → AllBelow B (r .positives) → AllBelow B (r .negatives) → rulesWritable B (simplify r) ≡ true
-simplify-writable B r few h p n =
+simplify-writable : (packed : Bool) (B : ℕ) (r : RuleOf Term) → length (r .heads) + (length (r .positives) + length (r .negatives)) ≤ 3
+    → AllBelow B (r .heads) → AllBelow B (r .positives) → AllBelow B (r .negatives) → rulesWritable packed B (simplify r) ≡ true
+simplify-writable packed B r few h p n =
     let short : length (literals (reduce r)) ≤ 3
     = simp length-append (omega (arith, length-names (r .heads), length-names (r .positives), length-names (r .negatives))) in
     let below = allBelow-append B (names (r .heads)) _ (names-below B (r .heads) h)
     (allBelow-append B (names (r .positives)) (names (r .negatives)) (names-below B (r .positives) p) (names-below B (r .negatives) n)) in
-    cases (removes r) (λ t. rw t) (λ f. rw f (&&-join (&&-join (le-leb _ _ short) below) refl))
+    cases (removes r) (λ t. rw t) (λ f. rw f (&&-join (&&-join (le-leb _ _ (three-allowed packed _ short)) below) refl))
 
 -- ---- the rows of a kind
 
@@ -80,13 +85,13 @@ abbrev rowsFew : List (RuleOf Slot) → Bool
 rowsFew [] = true
 rowsFew (r ∷ rs) = leb (length (r .heads) + (length (r .positives) + length (r .negatives))) 3 && rowsFew rs
 
-instances-writable : (B : ℕ) (f : Slot → Term) → ((s : Slot) → Below B (f s)) → (rs : List (RuleOf Slot)) → rowsFew rs ≡ true → rulesWritable B (instances f rs) ≡ true
-instances-writable B f h [] few = refl
-instances-writable B f h (r ∷ rs) few =
+instances-writable : (packed : Bool) (B : ℕ) (f : Slot → Term) → ((s : Slot) → Below B (f s)) → (rs : List (RuleOf Slot)) → rowsFew rs ≡ true → rulesWritable packed B (instances f rs) ≡ true
+instances-writable packed B f h [] few = refl
+instances-writable packed B f h (r ∷ rs) few =
     let s = &&-split (leb (length (r .heads) + (length (r .positives) + length (r .negatives))) 3) (rowsFew rs) few in
-    rulesWritable-append B (simplify (mapRule f r)) (instances f rs)
-    (simplify-writable B (mapRule f r) (simp length-map (leb-true _ _ (s .0))) (map-below B f h (r .heads)) (map-below B f h (r .positives)) (map-below B f h (r .negatives)))
-    (instances-writable B f h rs (s .1))
+    rulesWritable-append packed B (simplify (mapRule f r)) (instances f rs)
+    (simplify-writable packed B (mapRule f r) (simp length-map (leb-true _ _ (s .0))) (map-below B f h (r .heads)) (map-below B f h (r .positives)) (map-below B f h (r .negatives)))
+    (instances-writable packed B f h rs (s .1))
 
 module _ (B next : ℕ) (left right : Term) (l : Below B left) (r : Below B right) where
   -- Only implies has M.
@@ -108,14 +113,14 @@ module _ (B next : ℕ) (left right : Term) (l : Below B left) (r : Below B righ
   fill-below h L = omega arith
   fill-below h M = h
 
-  kind-writable : (k : Kind) → next + labelCount k ≤ B → rulesWritable B (instances (fill left right next) (rows k)) ≡ true
-  kind-writable falseKind h = refl
-  kind-writable trueKind h = refl
-  kind-writable atomKind h = refl
-  kind-writable notKind h = instances-writable B withoutM (withoutM-below (omega arith)) (rows notKind) refl
-  kind-writable andKind h = instances-writable B withoutM (withoutM-below (omega arith)) (rows andKind) refl
-  kind-writable orKind h = instances-writable B withoutM (withoutM-below (omega arith)) (rows orKind) refl
-  kind-writable impliesKind h = instances-writable B (fill left right next) (fill-below (omega arith)) (rows impliesKind) refl
+  kind-writable : (packed : Bool) (k : Kind) → next + labelCount k ≤ B → rulesWritable packed B (instances (fill left right next) (rows k)) ≡ true
+  kind-writable packed falseKind h = refl
+  kind-writable packed trueKind h = refl
+  kind-writable packed atomKind h = refl
+  kind-writable packed notKind h = instances-writable packed B withoutM (withoutM-below (omega arith)) (rows notKind) refl
+  kind-writable packed andKind h = instances-writable packed B withoutM (withoutM-below (omega arith)) (rows andKind) refl
+  kind-writable packed orKind h = instances-writable packed B withoutM (withoutM-below (omega arith)) (rows orKind) refl
+  kind-writable packed impliesKind h = instances-writable packed B (fill left right next) (fill-below (omega arith)) (rows impliesKind) refl
 
 -- ---- the whole program
 
@@ -123,35 +128,35 @@ module _ (A : ℕ) (s : List ℕ) (N : ℕ) (ok : Nodes A s N) where
   next-up : (k n : ℕ) → k ≤ n → nextTo A s k ≤ nextTo A s n
   next-up k n h = le-ind (λ m. nextTo A s k ≤ nextTo A s m) (omega arith) (λ m l e. rw (← add-one, nextTo-more) (omega arith)) n h
 
-  rulesTo-writable : (k : ℕ) → k ≤ N → rulesWritable (nextTo A s N) (rulesTo A s k) ≡ true
-  rulesTo-writable zero h = rw rulesTo-none
-  rulesTo-writable (suc k) h =
+  rulesTo-writable : (packed : Bool) (k : ℕ) → k ≤ N → rulesWritable packed (nextTo A s N) (rulesTo A s k) ≡ true
+  rulesTo-writable packed zero h = rw rulesTo-none
+  rulesTo-writable packed (suc k) h =
       let n = nodeIn s k in
       let B = nextTo A s N in
       let term-in : (j : ℕ) → Below B (termAt (termsTo A s k) j)
       = λ j. below-le (nextTo A s k) B (next-up k N (omega arith)) (termAt (termsTo A s k) j) (terms-below A s N ok k (omega arith) j) in
       let room : nextTo A s k + labelCount (n .kind) ≤ B = rw nextTo-more at (next-up (k + 1) N (omega arith)) in
       rw (← add-one, rulesTo-more)
-      (rulesWritable-append B (rulesTo A s k) _ (rulesTo-writable k (omega arith))
-      (kind-writable B (nextTo A s k) _ _ (term-in (n .left)) (term-in (n .right)) (n .kind) room))
+      (rulesWritable-append packed B (rulesTo A s k) _ (rulesTo-writable packed k (omega arith))
+      (kind-writable B (nextTo A s k) _ _ (term-in (n .left)) (term-in (n .right)) packed (n .kind) room))
 
-  factsTo-writable : (roots : List ℕ) (i : ℕ) → rulesWritable (nextTo A s N) (factsTo (termAt (termsTo A s N)) roots i) ≡ true
-  factsTo-writable roots zero = rw factsTo-none
-  factsTo-writable roots (suc i) =
+  factsTo-writable : (packed : Bool) (roots : List ℕ) (i : ℕ) → rulesWritable packed (nextTo A s N) (factsTo (termAt (termsTo A s N)) roots i) ≡ true
+  factsTo-writable packed roots zero = rw factsTo-none
+  factsTo-writable packed roots (suc i) =
       let B = nextTo A s N in
       rw (← add-one, factsTo-more)
-      (rulesWritable-append B (factsTo (termAt (termsTo A s N)) roots i) _ (factsTo-writable roots i)
-      (simplify-writable B (fact (termAt (termsTo A s N) (rootIn roots i))) (omega arith) (terms-below A s N ok N (omega arith) (rootIn roots i), tt) tt tt))
+      (rulesWritable-append packed B (factsTo (termAt (termsTo A s N)) roots i) _ (factsTo-writable packed roots i)
+      (simplify-writable packed B (fact (termAt (termsTo A s N) (rootIn roots i))) (omega arith) (terms-below A s N ok N (omega arith) (rootIn roots i), tt) tt tt))
 
 -- A pair's rule has two literals, both atoms of the book.
-pairsTo-writable : (A B : ℕ) → A ≤ B → (s : List ℕ) (n : ℕ) → ((i : ℕ) → i < n → pairFits A (pairIn s i) ≡ true) → rulesWritable B (pairsTo s n) ≡ true
+pairsTo-writable : (packed : Bool) (A B : ℕ) → A ≤ B → (s : List ℕ) (n : ℕ) → ((i : ℕ) → i < n → pairFits A (pairIn s i) ≡ true) → rulesWritable packed B (pairsTo s n) ≡ true
 unfolding upTo
-pairsTo-writable A B le s zero h = refl
-pairsTo-writable A B le s (suc n) h =
+pairsTo-writable packed A B le s zero h = refl
+pairsTo-writable packed A B le s (suc n) h =
     let p = pairIn s n in
     let below = pair-below A p (h n (omega arith)) in
-    rulesWritable-append B (pairsTo s n) (pairRule p ∷ []) (pairsTo-writable A B le s n (λ i l. h i (omega arith)))
-    (rw (lt-ltb (p .first) B (omega arith), lt-ltb (p .second) B (omega arith)))
+    rulesWritable-append packed B (pairsTo s n) (pairRule p ∷ []) (pairsTo-writable packed A B le s n (λ i l. h i (omega arith)))
+    (rw (le-leb 2 (mostLiterals packed) (three-allowed packed 2 (omega arith)), lt-ltb (p .first) B (omega arith), lt-ltb (p .second) B (omega arith)))
 
 module _ (t : List ℕ) (ok : none (theoryRows t) ≡ true) where
   abbrev terms : List Term
@@ -168,16 +173,16 @@ module _ (t : List ℕ) (ok : none (theoryRows t) ≡ true) where
   pub over-idle : (r : Row) → (r .applies ≡ true → mostB < sizeOf t) → r .applies ≡ false
   over-idle r over = cases (r .applies) (λ a. absurd (omega (arith, accepted-size, over a))) (λ a. a)
 
-  rules-writable : rulesWritable (sizeOf t) (flat (bookOf t) .rules) ≡ true
-  rules-writable =
+  rules-writable : (packed : Bool) → rulesWritable packed (sizeOf t) (flat (bookOf t) .rules) ≡ true
+  rules-writable packed =
       let s = nodeSection t in
       let nodes = nodes-accepted t ok in
       rw (flat-size t, flat-rules t (termAt terms) (λ i h. refl))
-      (rulesWritable-append _ (rulesTo (atomCount t) s (nodeCount t) ++ _) _
-      (rulesWritable-append _ (rulesTo (atomCount t) s (nodeCount t)) _
-      (rulesTo-writable (atomCount t) s (nodeCount t) nodes (nodeCount t) (omega arith))
-      (factsTo-writable (atomCount t) s (nodeCount t) nodes (rootSection t) (rootCount t)))
-      (pairsTo-writable (atomCount t) _ (rw nextTo-none at (next-up (atomCount t) s (nodeCount t) nodes 0 (nodeCount t) (omega arith))) (pairSection t) (pairCount t) (accepted t ok .pairs-fit)))
+      (rulesWritable-append packed _ (rulesTo (atomCount t) s (nodeCount t) ++ _) _
+      (rulesWritable-append packed _ (rulesTo (atomCount t) s (nodeCount t)) _
+      (rulesTo-writable (atomCount t) s (nodeCount t) nodes packed (nodeCount t) (omega arith))
+      (factsTo-writable (atomCount t) s (nodeCount t) nodes packed (rootSection t) (rootCount t)))
+      (pairsTo-writable packed (atomCount t) _ (rw nextTo-none at (next-up (atomCount t) s (nodeCount t) nodes 0 (nodeCount t) (omega arith))) (pairSection t) (pairCount t) (accepted t ok .pairs-fit)))
 
   within : outside (bookOf t .atoms) (sizeOf t) (ruleTotal t) ≡ false
   unfolding bookOf
@@ -185,12 +190,16 @@ module _ (t : List ℕ) (ok : none (theoryRows t) ≡ true) where
       let few = nodes-accepted t ok .few-atoms in
       rw (le-ltb mostAtoms (atomCount t) few, le-ltb (sizeOf t) (atomCount t) (omega arith), le-ltb mostB (sizeOf t) (omega (arith, accepted-size)), le-ltb mostRules (ruleTotal t) (omega (arith, accepted-total t ok)))
 
-  pub flat-writable : writable (flat (bookOf t)) ≡ true
-  flat-writable = rw within rules-writable
+  pub flat-writable : (packed : Bool) → writable packed (flat (bookOf t)) ≡ true
+  flat-writable packed = rw within (rules-writable packed)
 
-  -- What is written passes the program's check and is read back as the flat program.
-  pub translated-accepted : none (programRows (imageOf (flat (bookOf t)))) ≡ true
-  translated-accepted = imageOf-accepted (flat (bookOf t)) flat-writable
+  -- What is written in either form passes the program's check, is read back as the flat program, and ends where its total says.
+  module _ (packed : Bool) where
+    pub translated-accepted : none (programRows (imageOf packed (flat (bookOf t)))) ≡ true
+    translated-accepted = imageOf-accepted packed (flat (bookOf t)) (flat-writable packed)
 
-  pub translated-read : programOf (imageOf (flat (bookOf t))) ≡ flat (bookOf t)
-  translated-read = programOf-imageOf (flat (bookOf t)) flat-writable
+    pub translated-read : programOf (imageOf packed (flat (bookOf t))) ≡ flat (bookOf t)
+    translated-read = programOf-imageOf packed (flat (bookOf t)) (flat-writable packed)
+
+    pub translated-part : (rest : List ℕ) → let p = imageOf packed (flat (bookOf t)) in take (totalOf (p ++ rest)) (p ++ rest) ≡ p
+    translated-part = imageOf-part packed (flat (bookOf t)) (flat-writable packed)

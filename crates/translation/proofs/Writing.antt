@@ -1,5 +1,6 @@
 -- What a writer of rules needs of a list of rules that grows by a part at each turn: the bytes grow by the part's, and there is room for them. Assumes nothing.
 use mathlib.Core.Path.{_≡_, refl, sym, ap, _∙_}
+use mathlib.Core.Bool.{Bool, true, false}
 use mathlib.Core.List.{List, [], _∷_, _++_, append-assoc}
 use Prim.Native.Nat.{ℕ, _+_, _-_, _≤_, _<_}
 use native.Mathlib.Omega.{arith}
@@ -10,15 +11,15 @@ use Rattle.wire.specs.Wire.{over}
 use Rattle.wire.proofs.Laws.{part-from, length-over, Written, written-none, turn}
 use Rattle.theory.specs.Book.{Pair}
 use Rattle.program.specs.Rule.{Rule}
-use Rattle.program.specs.Image.{tenBytes, ruleBytes, rulesBytes}
+use Rattle.program.specs.Image.{slotBytes, countedBytes, ruleBytes, rulesBytes}
 use Rattle.program.proofs.Lengths.{rulesBytes-append}
 use Rattle.flat.specs.Flat.{pairRule}
 use Rattle.translation.proofs.Turns.{grown}
 
 -- Where a writer stands that has no rule to write yet.
-pub written-no-rules : (rs : List Rule) (old : List ℕ) → rs ≡ [] → Written (rulesBytes rs) old old 0
+pub written-no-rules : (packed : Bool) (rs : List Rule) (old : List ℕ) → rs ≡ [] → Written (rulesBytes packed rs) old old 0
 unfolding rulesBytes
-written-no-rules rs old e = rw e (written-none old)
+written-no-rules packed rs old e = rw e (written-none old)
 
 -- Where a writer stands that wrote over the start.
 pub written-first : (new old out : List ℕ) (at : ℕ) → length new ≤ length old → at ≡ length new → out ≡ over new old → Written new old out at
@@ -48,14 +49,15 @@ over-last head body old out h e =
     let l : length (take n old) ≡ n = length-take-le n old h in
     rw (e, append-assoc, drop-at (take n old) _ n l, append-assoc, length-append, l, length-append)
 
--- The ten bytes of a pair's rule.
-pub pair-bytes : (p : Pair) → tenBytes 0 2 0 (p .first ∷ p .second ∷ 0 ∷ []) ≡ rulesBytes (pairRule p ∷ [])
-unfolding ruleBytes rulesBytes
-pair-bytes p = refl
+-- The bytes of a pair's rule: in the fixed form a third slot holds 0.
+pub pair-bytes : (packed : Bool) (p : Pair) → countedBytes packed 0 2 0 (p .first ∷ p .second ∷ 0 ∷ []) ≡ rulesBytes packed (pairRule p ∷ [])
+unfolding slotBytes ruleBytes rulesBytes
+pair-bytes true p = refl
+pair-bytes false p = refl
 
-module _ (whole part : ℕ → List Rule) (more : (k : ℕ) → whole (k + 1) ≡ whole k ++ part k) where
-  pub bytes-more : (k : ℕ) → rulesBytes (whole (k + 1)) ≡ rulesBytes (whole k) ++ rulesBytes (part k)
-  bytes-more k = ap rulesBytes (more k) ∙ rulesBytes-append (whole k) (part k)
+module _ (packed : Bool) (whole part : ℕ → List Rule) (more : (k : ℕ) → whole (k + 1) ≡ whole k ++ part k) where
+  pub bytes-more : (k : ℕ) → rulesBytes packed (whole (k + 1)) ≡ rulesBytes packed (whole k) ++ rulesBytes packed (part k)
+  bytes-more k = ap (rulesBytes packed) (more k) ∙ rulesBytes-append packed (whole k) (part k)
 
-  pub bytes-fit : (k n room : ℕ) → k < n → length (rulesBytes (whole n)) ≤ room → length (rulesBytes (whole k)) + length (rulesBytes (part k)) ≤ room
-  bytes-fit k n room h fits = omega (arith, grown (λ i. rulesBytes (whole i)) (λ i. rulesBytes (part i)) bytes-more k n h)
+  pub bytes-fit : (k n room : ℕ) → k < n → length (rulesBytes packed (whole n)) ≤ room → length (rulesBytes packed (whole k)) + length (rulesBytes packed (part k)) ≤ room
+  bytes-fit k n room h fits = omega (arith, grown (λ i. rulesBytes packed (whole i)) (λ i. rulesBytes packed (part i)) bytes-more k n h)

@@ -1,4 +1,5 @@
 -- What translation and extension answer, and what their output holds then.
+use mathlib.Core.Bool.{Bool}
 use mathlib.Core.List.{List, [], _∷_, _++_, map}
 use Prim.Native.Nat.{ℕ}
 use lib.ListN.{length}
@@ -8,7 +9,7 @@ use Rattle.wire.specs.Outcome.{written}
 use Rattle.logic.specs.Value.{number}
 use Rattle.logic.specs.Formula.{readingOf}
 use Rattle.theory.specs.Image.{atomCount, bookOf}
-use Rattle.program.specs.Image.{imageLength, imageOf}
+use Rattle.program.specs.Image.{imageOf}
 use Rattle.flat.specs.Flat.{flat}
 use Rattle.flat.specs.Extension.{extend}
 
@@ -19,13 +20,13 @@ sizeOf t = flat (bookOf t) .size
 abbrev pub ruleTotal : List ℕ → ℕ
 ruleTotal t = length (flat (bookOf t) .rules)
 
--- The row of a translation of a checked theory image; `room` is the output's length.
-unfoldable pub translateRows : (t : List ℕ) → (room : ℕ) → List Row
-translateRows t room = row8 (imageLength (ruleTotal t)) room ∷ []
+-- The row of a translation of a checked theory image into either form; `room` is the output's length.
+unfoldable pub translateRows : (packed : Bool) → (t : List ℕ) → (room : ℕ) → List Row
+translateRows packed t room = row8 (length (imageOf packed (flat (bookOf t)))) room ∷ []
 
 -- What the output holds then: the flat program's image over its start, or what it held where that row applies.
-unfoldable pub translated : (t out : List ℕ) → List ℕ
-translated t out = written (translateRows t (length out)) (imageOf (flat (bookOf t))) out
+unfoldable pub translated : (packed : Bool) → (t out : List ℕ) → List ℕ
+translated packed t out = written (translateRows packed t (length out)) (imageOf packed (flat (bookOf t))) out
 
 -- The rows of an extension of a reading, in the order tested.
 unfoldable pub extendRows : (t reading : List ℕ) → (room : ℕ) → List Row

@@ -10,6 +10,7 @@ use Rattle.logic.specs.Value.{number, ofByte, negation}
 use Rattle.theory.specs.Book.{Node}
 use Rattle.theory.specs.Image.{atomCount, nodeCount, nodeSection, kindOf, nodeIn, breaks, rootIn, pairIn}
 use Rattle.program.specs.Rule.{Rule}
+use Rattle.program.specs.Image.{literalTotal}
 use Rattle.flat.specs.Table.{rows, labelCount}
 use Rattle.flat.specs.Flat.{Term, term, instances, nodeRules, fact, simplify, pairRule, labelTotal}
 use Rattle.table.specs.Shapes.{labelsOf, shapeRule, kindShape}
@@ -74,6 +75,12 @@ kindRules terms kind = instances (filled terms) (rows (kindOf kind))
 -- and those of its first j rows.
 unfoldable pub rowsTo : (terms : List ℕ) → (kind j : ℕ) → List Rule
 rowsTo terms kind j = instances (filled terms) (upTo (λ i. shapeRule (kindShape kind i)) j)
+
+-- So many rules with so many literals are those of a list, three literals a rule at most.
+pub record Counted (rs : List Rule) (rules literals : ℕ) : Type 0 where
+  pub all : rules ≡ length rs
+  pub each : literals ≡ literalTotal rs
+  pub few : literals ≤ rules * 3
 
 -- The numbers of the first N nodes' terms stand in a scratch,
 abbrev pub NumberedTo : (A : ℕ) → List ℕ → (N : ℕ) → (scratch : List ℕ) → Type 0

@@ -12,15 +12,28 @@ ghost use Rattle.refusal.specs.Rows.{readingRows};
 ghost use Rattle.wire.specs.Wire.{over};
 ghost use Rattle.logic.specs.Value.{number, ofByte, negation};
 ghost use Rattle.logic.specs.Formula.{readingOf};
-ghost use Rattle.theory.specs.Image.{atomCount, nodeIn, kindOf, bookOf};
+ghost use Rattle.theory.specs.Image.{atomCount, nodeCount, nodeSection, nodeIn, kindOf, bookOf};
 ghost use Rattle.theory.specs.Rows.{theoryRows};
-ghost use Rattle.program.specs.Image.{rulesBytes, imageLength, imageOf};
+ghost use Rattle.program.specs.Image.{rulesBytes, imageOf};
 ghost use Rattle.flat.specs.Flat.{termOf, flat};
 ghost use Rattle.flat.specs.Extension.{extend as extension};
 ghost use Rattle.table.specs.Shapes.{KindIn};
 ghost use Rattle.table.specs.OneRule.{code};
-ghost use Rattle.translation.specs.Turns.{Nodes, Roots, nextTo, rulesTo, factsTo, pairsTo, scratchTerm, slotTerms, kindRules, NumberedTo, Numbered, labelsTo};
+ghost use Rattle.translation.specs.Turns.{Nodes, Roots, nextTo, rulesTo, factsTo, pairsTo, scratchTerm, slotTerms, kindRules, Counted, NumberedTo, Numbered, labelsTo};
 ghost use Rattle.translation.specs.Outcome.{sizeOf, ruleTotal, translateRows, translated, extendRows, extended};
+
+// How many rules there are, and how many literals they have.
+struct Counts {
+    rules: usize,
+    literals: usize,
+}
+
+// What is measured of the nodes: how many atoms and labels there are up to the last, and how many rules and literals.
+struct Totals {
+    all: usize,
+    rules: usize,
+    literals: usize,
+}
 
 // The kind of node k, and its left and right.
 fn kind_at(nodes: &[u8], k: usize) -> usize
@@ -79,24 +92,6 @@ fn term_of(kind: usize, left: usize, next: usize) -> usize
     }
 }
 
-// Numbers the terms of the nodes, those of labels from A upward, and gives B.
-fn number(nodes: &[u8], count: usize, atoms: usize, terms: &mut [u16]) -> usize
-    requires { ⌜ Nodes atoms (now nodes) count × (count ≤ length (now terms)) ⌝ }
-    ensures { λ r. ⌜ r ≡ nextTo atoms (now (nodes .entry)) count ⌝ }
-    ensures { λ _. ⌜ NumberedTo atoms (now (nodes .entry)) count (now (terms .exit)) ⌝ }
-{
-    let kinds = table::kinds();
-    let mut next = atoms;
-    let mut k = 0;
-    while k < count {
-        let kind = kind_at(nodes, k);
-        terms[k] = term_of(kind, left_at(nodes, k), next) as u16;
-        next += kinds[kind][2] as usize;
-        k += 1;
-    }
-    next
-}
-
 // The terms of x, y, L and M of node k, whose labels start at `next`.
 fn slot_terms(nodes: &[u8], k: usize, terms: &[u16; refusal::MOST_NODES], next: usize) -> [usize; 4]
     requires { ⌜ (k * 6 + 6 ≤ length (now nodes)) × (nodeIn (now nodes) k .left < mostNodes) × (nodeIn (now nodes) k .right < mostNodes) × (next < 65536) ⌝ }
@@ -112,86 +107,113 @@ fn slot_terms(nodes: &[u8], k: usize, terms: &[u16; refusal::MOST_NODES], next: 
     ]
 }
 
-// How many rules a node of a kind has, where x, y, L and M have these terms: without constants, as many as its kind has rows.
-fn count_node(table: &[[u8; 6]; 14], index: &[[u8; 3]; 7], kind: usize, terms: &[usize; 4]) -> usize
+// Counts the rules of a node of a kind, where x, y, L and M have these terms: without constants, the kind's rows.
+fn count_node(
+    table: &[[u8; 6]; 14],
+    index: &[[u8; 4]; 7],
+    kind: usize,
+    terms: &[usize; 4],
+) -> Counts
     requires { ⌜ KindIn (now table) (now index) kind ⌝ }
-    ensures { λ r. ⌜ r ≡ length (kindRules (now (terms .entry)) kind) ⌝ }
+    ensures { λ r. ⌜ Counted (kindRules (now (terms .entry)) kind) (r .rules) (r .literals) ⌝ }
 {
     if table::all_names(terms) {
-        return index[kind][1] as usize;
+        return Counts {
+            rules: index[kind][1] as usize,
+            literals: index[kind][3] as usize,
+        };
     }
     count_rows(table, index, kind, terms)
 }
 
-// How many rules of its kind's rows stay, whatever the terms.
-fn count_rows(table: &[[u8; 6]; 14], index: &[[u8; 3]; 7], kind: usize, terms: &[usize; 4]) -> usize
+// Counts the rules that stay of its kind's rows, whatever the terms.
+fn count_rows(
+    table: &[[u8; 6]; 14],
+    index: &[[u8; 4]; 7],
+    kind: usize,
+    terms: &[usize; 4],
+) -> Counts
     requires { ⌜ KindIn (now table) (now index) kind ⌝ }
-    ensures { λ r. ⌜ r ≡ length (kindRules (now (terms .entry)) kind) ⌝ }
+    ensures { λ r. ⌜ Counted (kindRules (now (terms .entry)) kind) (r .rules) (r .literals) ⌝ }
 {
     let first = index[kind][0] as usize;
     let count = index[kind][1] as usize;
     let mut rules = 0;
+    let mut literals = 0;
     let mut j = 0;
     while j < count {
         let made = table::make(&table[first + j], terms);
         rules += table::stays(made.kept);
+        literals += table::literals_of(made);
         j += 1;
     }
-    rules
+    Counts { rules, literals }
 }
 
-// How many rules all nodes have.
-fn count_rules(
+// Measures the nodes in one pass: each node's term goes into `terms`, labels being numbered from A upward, and its rules are counted.
+fn measure(
     nodes: &[u8],
     count: usize,
     atoms: usize,
-    terms: &[u16; refusal::MOST_NODES],
-) -> usize
-    requires { ⌜ Nodes atoms (now nodes) count × NumberedTo atoms (now nodes) count (now terms) ⌝ }
-    ensures { λ r. ⌜ r ≡ length (rulesTo atoms (now (nodes .entry)) count) ⌝ }
+    terms: &mut [u16; refusal::MOST_NODES],
+) -> Totals
+    requires { ⌜ Nodes atoms (now nodes) count × (count ≤ length (now terms)) ⌝ }
+    ensures { λ r. ⌜ (r .all ≡ nextTo atoms (now (nodes .entry)) count) × Counted (rulesTo atoms (now (nodes .entry)) count) (r .rules) (r .literals) ⌝ }
+    ensures { λ _. ⌜ NumberedTo atoms (now (nodes .entry)) count (now (terms .exit)) ⌝ }
 {
     let table = table::shapes();
     let index = table::kinds();
     let mut next = atoms;
     let mut rules = 0;
+    let mut literals = 0;
     let mut k = 0;
     while k < count {
         let kind = kind_at(nodes, k);
+        terms[k] = term_of(kind, left_at(nodes, k), next) as u16;
         let filling = slot_terms(nodes, k, terms, next);
-        rules += count_node(&table, &index, kind, &filling);
+        let node = count_node(&table, &index, kind, &filling);
+        rules += node.rules;
+        literals += node.literals;
         next += index[kind][2] as usize;
         k += 1;
     }
-    rules
+    Totals {
+        all: next,
+        rules,
+        literals,
+    }
 }
 
-// How many facts the roots have.
-fn count_facts(roots: &[u8], count: usize, terms: &[u16; refusal::MOST_NODES]) -> usize
+// Counts the facts of the roots.
+fn count_facts(roots: &[u8], count: usize, terms: &[u16; refusal::MOST_NODES]) -> Counts
     requires { ⌜ Roots mostNodes (now roots) count ⌝ }
-    ensures { λ r. ⌜ r ≡ length (factsTo (scratchTerm (now (terms .entry))) (now (roots .entry)) count) ⌝ }
+    ensures { λ r. ⌜ Counted (factsTo (scratchTerm (now (terms .entry))) (now (roots .entry)) count) (r .rules) (r .literals) ⌝ }
 {
-    let mut facts = 0;
+    let mut rules = 0;
+    let mut literals = 0;
     let mut i = 0;
     while i < count {
         let root = wire::u16_at(roots, i * 2);
         let made = table::fact_of(wide_term(terms[root]));
-        facts += table::stays(made.kept);
+        rules += table::stays(made.kept);
+        literals += table::literals_of(made);
         i += 1;
     }
-    facts
+    Counts { rules, literals }
 }
 
 // Writes the rules of a node of a kind over the start of `out`, and gives how many bytes they are.
 fn write_node(
     out: &mut [u8],
+    packed: bool,
     table: &[[u8; 6]; 14],
-    index: &[[u8; 3]; 7],
+    index: &[[u8; 4]; 7],
     kind: usize,
     terms: &[usize; 4],
 ) -> usize
-    requires { ⌜ KindIn (now table) (now index) kind × (length (rulesBytes (kindRules (now terms) kind)) ≤ length (now out)) ⌝ }
-    ensures { λ r. ⌜ r ≡ length (rulesBytes (kindRules (now (terms .entry)) kind)) ⌝ }
-    ensures { λ _. ⌜ now (out .exit) ≡ over (rulesBytes (kindRules (now (terms .entry)) kind)) (now (out .entry)) ⌝ }
+    requires { ⌜ KindIn (now table) (now index) kind × (length (rulesBytes packed (kindRules (now terms) kind)) ≤ length (now out)) ⌝ }
+    ensures { λ r. ⌜ r ≡ length (rulesBytes packed (kindRules (now (terms .entry)) kind)) ⌝ }
+    ensures { λ _. ⌜ now (out .exit) ≡ over (rulesBytes packed (kindRules (now (terms .entry)) kind)) (now (out .entry)) ⌝ }
 {
     let first = index[kind][0] as usize;
     let count = index[kind][1] as usize;
@@ -199,7 +221,7 @@ fn write_node(
     let mut j = 0;
     while j < count {
         let made = table::make(&table[first + j], terms);
-        at += table::put_rule(&mut out[at..], made);
+        at += table::put_rule(&mut out[at..], packed, made);
         j += 1;
     }
     at
@@ -208,15 +230,16 @@ fn write_node(
 // Writes the rules of all nodes over the start of `out`, each node's into the unwritten rest.
 fn write_nodes(
     out: &mut [u8],
+    packed: bool,
     nodes: &[u8],
     count: usize,
     atoms: usize,
     terms: &[u16; refusal::MOST_NODES],
 ) -> usize
     requires { ⌜ Nodes atoms (now nodes) count × NumberedTo atoms (now nodes) count (now terms) ⌝ }
-    requires { ⌜ length (rulesBytes (rulesTo atoms (now nodes) count)) ≤ length (now out) ⌝ }
-    ensures { λ r. ⌜ r ≡ length (rulesBytes (rulesTo atoms (now (nodes .entry)) count)) ⌝ }
-    ensures { λ _. ⌜ now (out .exit) ≡ over (rulesBytes (rulesTo atoms (now (nodes .entry)) count)) (now (out .entry)) ⌝ }
+    requires { ⌜ length (rulesBytes packed (rulesTo atoms (now nodes) count)) ≤ length (now out) ⌝ }
+    ensures { λ r. ⌜ r ≡ length (rulesBytes packed (rulesTo atoms (now (nodes .entry)) count)) ⌝ }
+    ensures { λ _. ⌜ now (out .exit) ≡ over (rulesBytes packed (rulesTo atoms (now (nodes .entry)) count)) (now (out .entry)) ⌝ }
 {
     let table = table::shapes();
     let index = table::kinds();
@@ -226,7 +249,7 @@ fn write_nodes(
     while k < count {
         let kind = kind_at(nodes, k);
         let filling = slot_terms(nodes, k, terms, next);
-        at += write_node(&mut out[at..], &table, &index, kind, &filling);
+        at += write_node(&mut out[at..], packed, &table, &index, kind, &filling);
         next += index[kind][2] as usize;
         k += 1;
     }
@@ -236,70 +259,86 @@ fn write_nodes(
 // Writes a fact for each root over the start of `out`.
 fn write_facts(
     out: &mut [u8],
+    packed: bool,
     roots: &[u8],
     count: usize,
     terms: &[u16; refusal::MOST_NODES],
 ) -> usize
     requires { ⌜ Roots mostNodes (now roots) count ⌝ }
-    requires { ⌜ length (rulesBytes (factsTo (scratchTerm (now terms)) (now roots) count)) ≤ length (now out) ⌝ }
-    ensures { λ r. ⌜ r ≡ length (rulesBytes (factsTo (scratchTerm (now (terms .entry))) (now (roots .entry)) count)) ⌝ }
-    ensures { λ _. ⌜ now (out .exit) ≡ over (rulesBytes (factsTo (scratchTerm (now (terms .entry))) (now (roots .entry)) count)) (now (out .entry)) ⌝ }
+    requires { ⌜ length (rulesBytes packed (factsTo (scratchTerm (now terms)) (now roots) count)) ≤ length (now out) ⌝ }
+    ensures { λ r. ⌜ r ≡ length (rulesBytes packed (factsTo (scratchTerm (now (terms .entry))) (now (roots .entry)) count)) ⌝ }
+    ensures { λ _. ⌜ now (out .exit) ≡ over (rulesBytes packed (factsTo (scratchTerm (now (terms .entry))) (now (roots .entry)) count)) (now (out .entry)) ⌝ }
 {
     let mut at = 0;
     let mut done = 0;
     while done < count {
         let root = wire::u16_at(roots, done * 2);
         let fact = table::fact_of(wide_term(terms[root]));
-        at += table::put_rule(&mut out[at..], fact);
+        at += table::put_rule(&mut out[at..], packed, fact);
         done += 1;
     }
     at
 }
 
 // Writes a rule for each pair over the start of `out`: ← first, second.
-fn write_pairs(out: &mut [u8], pairs: &[u8], count: usize) -> usize
+fn write_pairs(out: &mut [u8], packed: bool, pairs: &[u8], count: usize) -> usize
     requires { ⌜ count * 4 ≤ length (now pairs) ⌝ }
-    requires { ⌜ length (rulesBytes (pairsTo (now pairs) count)) ≤ length (now out) ⌝ }
-    ensures { λ r. ⌜ r ≡ length (rulesBytes (pairsTo (now (pairs .entry)) count)) ⌝ }
-    ensures { λ _. ⌜ now (out .exit) ≡ over (rulesBytes (pairsTo (now (pairs .entry)) count)) (now (out .entry)) ⌝ }
+    requires { ⌜ length (rulesBytes packed (pairsTo (now pairs) count)) ≤ length (now out) ⌝ }
+    ensures { λ r. ⌜ r ≡ length (rulesBytes packed (pairsTo (now (pairs .entry)) count)) ⌝ }
+    ensures { λ _. ⌜ now (out .exit) ≡ over (rulesBytes packed (pairsTo (now (pairs .entry)) count)) (now (out .entry)) ⌝ }
 {
     let mut at = 0;
     let mut i = 0;
     while i < count {
         let first = wire::u16_at(pairs, i * 4);
         let second = wire::u16_at(pairs, i * 4 + 2);
-        let rule = program::rule_bytes(0, 2, 0, [first, second, 0]);
-        at += wire::put(&mut out[at..], &rule);
+        at += program::put_rule(&mut out[at..], packed, 0, 2, 0, [first, second, 0]);
         i += 1;
     }
     at
 }
 
-// K: the rules of the nodes, the facts of the roots, and a rule for each pair.
-fn count(theory: &[u8], terms: &[u16; refusal::MOST_NODES]) -> usize
+// Counts all rules: those of the nodes, which are measured already, the facts of the roots, and a rule of two literals for each pair.
+fn count(theory: &[u8], terms: &[u16; refusal::MOST_NODES], rules: usize, literals: usize) -> Counts
     requires { ⌜ (none (theoryRows (now theory)) ≡ true) × Numbered (now theory) (now terms) ⌝ }
-    ensures { λ r. ⌜ (r ≡ ruleTotal (now (theory .entry))) × (r ≤ mostRules) ⌝ }
+    requires { ⌜ Counted (rulesTo (atomCount (now theory)) (nodeSection (now theory)) (nodeCount (now theory))) rules literals ⌝ }
+    ensures { λ r. ⌜ Counted (flat (bookOf (now (theory .entry))) .rules) (r .rules) (r .literals) × (r .rules ≤ mostRules) ⌝ }
 {
     let start = theory::roots_start(theory);
-    let nodes = theory::nodes(theory);
-    let rules = count_rules(&theory[16..], nodes, theory::atoms(theory), terms);
     let facts = count_facts(&theory[start..], theory::roots(theory), terms);
-    rules + facts + theory::pairs(theory)
+    let pairs = theory::pairs(theory);
+    Counts {
+        rules: rules + facts.rules + pairs,
+        literals: literals + facts.literals + pairs * 2,
+    }
 }
 
 // Writes all rules over the start of `out`: those of the nodes, then a fact for each root, then a rule for each pair.
-fn write_rules(theory: &[u8], out: &mut [u8], terms: &[u16; refusal::MOST_NODES]) -> usize
+fn write_rules(
+    theory: &[u8],
+    packed: bool,
+    out: &mut [u8],
+    terms: &[u16; refusal::MOST_NODES],
+) -> usize
     requires { ⌜ (none (theoryRows (now theory)) ≡ true) × Numbered (now theory) (now terms) ⌝ }
-    requires { ⌜ length (rulesBytes (flat (bookOf (now theory)) .rules)) ≤ length (now out) ⌝ }
-    ensures { λ r. ⌜ r ≡ length (rulesBytes (flat (bookOf (now (theory .entry))) .rules)) ⌝ }
-    ensures { λ _. ⌜ now (out .exit) ≡ over (rulesBytes (flat (bookOf (now (theory .entry))) .rules)) (now (out .entry)) ⌝ }
+    requires { ⌜ length (rulesBytes packed (flat (bookOf (now theory)) .rules)) ≤ length (now out) ⌝ }
+    ensures { λ r. ⌜ r ≡ length (rulesBytes packed (flat (bookOf (now (theory .entry))) .rules)) ⌝ }
+    ensures { λ _. ⌜ now (out .exit) ≡ over (rulesBytes packed (flat (bookOf (now (theory .entry))) .rules)) (now (out .entry)) ⌝ }
 {
     let start = theory::roots_start(theory);
     let nodes = theory::nodes(theory);
-    let at = write_nodes(out, &theory[16..], nodes, theory::atoms(theory), terms);
+    let at = write_nodes(
+        out,
+        packed,
+        &theory[16..],
+        nodes,
+        theory::atoms(theory),
+        terms,
+    );
     let end = at
         + write_facts(
             &mut out[at..],
+            packed,
             &theory[start..],
             theory::roots(theory),
             terms,
@@ -307,6 +346,7 @@ fn write_rules(theory: &[u8], out: &mut [u8], terms: &[u16; refusal::MOST_NODES]
     end
         + write_pairs(
             &mut out[end..],
+            packed,
             &theory[theory::pairs_start(theory)..],
             theory::pairs(theory),
         )
@@ -315,37 +355,47 @@ fn write_rules(theory: &[u8], out: &mut [u8], terms: &[u16; refusal::MOST_NODES]
 // Writes the program's image over the start of `out`: the rules, and the header last.
 fn write(
     theory: &[u8],
+    packed: bool,
     out: &mut [u8],
     terms: &[u16; refusal::MOST_NODES],
     size: usize,
     rules: usize,
+    total: usize,
 )
     requires { ⌜ (none (theoryRows (now theory)) ≡ true) × Numbered (now theory) (now terms) ⌝ }
-    requires { ⌜ (size ≡ sizeOf (now theory)) × (rules ≡ ruleTotal (now theory)) × (rules ≤ mostRules) × (imageLength rules ≤ length (now out)) ⌝ }
-    ensures { λ _. ⌜ now (out .exit) ≡ over (imageOf (flat (bookOf (now (theory .entry))))) (now (out .entry)) ⌝ }
+    requires { ⌜ (size ≡ sizeOf (now theory)) × (rules ≡ ruleTotal (now theory)) × (total ≡ length (imageOf packed (flat (bookOf (now theory))))) × (total ≤ length (now out)) ⌝ }
+    ensures { λ _. ⌜ now (out .exit) ≡ over (imageOf packed (flat (bookOf (now (theory .entry))))) (now (out .entry)) ⌝ }
 {
-    write_rules(theory, &mut out[16..], terms);
-    let header = program::header_bytes(theory::atoms(theory), size, rules);
+    write_rules(theory, packed, &mut out[16..], terms);
+    let header = program::header_bytes(packed, theory::atoms(theory), size, rules, total);
     wire::put(out, &header);
 }
 
-// The translation of a checked theory image into a program image: row 8 first, and K rules where it does not apply.
-pub fn translate(theory: &[u8], out: &mut [u8]) -> Answer
+// The translation of a checked theory image into a program image of either form: row 8 first, and K rules where it does not apply.
+pub fn translate(theory: &[u8], packed: bool, out: &mut [u8]) -> Answer
     requires { ⌜ none (theoryRows (now theory)) ≡ true ⌝ }
-    ensures { λ r. ⌜ r ≡ answer (translateRows (now (theory .entry)) (length (now (out .entry)))) (ruleTotal (now (theory .entry))) ⌝ }
-    ensures { λ _. ⌜ now (out .exit) ≡ translated (now (theory .entry)) (now (out .entry)) ⌝ }
+    ensures { λ r. ⌜ r ≡ answer (translateRows packed (now (theory .entry)) (length (now (out .entry)))) (ruleTotal (now (theory .entry))) ⌝ }
+    ensures { λ _. ⌜ now (out .exit) ≡ translated packed (now (theory .entry)) (now (out .entry)) ⌝ }
 {
     let atoms = theory::atoms(theory);
     let nodes = theory::nodes(theory);
     let mut terms = [0u16; refusal::MOST_NODES];
-    let all = number(&theory[16..], nodes, atoms, &mut terms);
-    let rules = count(theory, &terms);
-    let needed = 16 + rules * 10;
+    let measured = measure(&theory[16..], nodes, atoms, &mut terms);
+    let whole = count(theory, &terms, measured.rules, measured.literals);
+    let needed = program::image_length(packed, whole.rules, whole.literals);
     if out.len() < needed {
         return refusal::refuse(8, needed);
     }
-    write(theory, out, &terms, all, rules);
-    refusal::accept(rules)
+    write(
+        theory,
+        packed,
+        out,
+        &terms,
+        measured.all,
+        whole.rules,
+        needed,
+    );
+    refusal::accept(whole.rules)
 }
 
 // Writes the labels of a node over the start of `out`: L holds the node's value, and M, where there is one, that of not its right side.

@@ -1,101 +1,91 @@
--- `count` gives K: the nodes' rules, the roots' facts and one for each pair are all rules of the program. Assumes nothing.
-use mathlib.Core.Path.{_≡_}
-use Prim.Native.Nat.{_+_, _≤_}
+-- `count` counts all rules: those of the nodes, the facts of the roots and one for each pair are the rules of the program. Assumes nothing.
+use mathlib.Core.Path.{refl, sym, subst}
+use Prim.Native.Nat.{_+_, _*_, _≤_}
 use native.Mathlib.Omega.{arith}
 use denote.Ref.{now}
 use Rattle.wire.proofs.Laws.{part-from}
-use Rattle.theory.specs.Image.{pairCount}
+use Rattle.theory.specs.Image.{pairCount, pairSection, bookOf}
 use Rattle.theory.proofs.Accepted.{accepted}
-use Rattle.flat.specs.Flat.{largestK}
+use Rattle.flat.specs.Flat.{flat, largestK}
 use Rattle.translation.specs.Outcome.{ruleTotal}
-use Rattle.translation.proofs.Sections.{nodes-accepted, roots-within, ruleTotal-parts, accepted-total}
+use Rattle.translation.specs.Turns.{pairsTo, Counted}
+use Rattle.translation.proofs.Counting.{counted-more, counted-pairs}
+use Rattle.translation.proofs.Sections.{roots-within, accepted-rules, accepted-total}
 use borrow.Author.Needs.{needs}
 use Rattle.translation.proofs.count.Statement.{statement}
 use Rattle.translation.proofs.count.Tie as tie
 
 roots-start-requires : tie.Need-roots-start-requires
-roots-start-requires c κs = accepted _ (c .before .pre .0) .header .long
-
-nodes-requires : tie.Need-nodes-requires
-nodes-requires c κs = accepted _ (c .before .before .pre .0) .header .long
-
-sub-count-rules : tie.Need-sub-count-rules
-sub-count-rules c = accepted _ (c .before .before .before .pre .0) .header .long
-
-part-count-rules-start : tie.Need-part-count-rules-start
-part-count-rules-start c = accepted _ (c .before .before .before .pre .0) .header .long
-
-part-count-rules-end : tie.Need-part-count-rules-end
-part-count-rules-end c = search needs
-
-atoms-requires : tie.Need-atoms-requires
-atoms-requires c κs = accepted _ (c .before .before .before .before .pre .0) .header .long
-
-count-rules-requires : tie.Need-count-rules-requires
-count-rules-requires c κs =
-    let start = c .before .before .before .before .before in
-    rw (c .atoms .ensures .0, c .before .before .nodes .ensures .0, part-from) (nodes-accepted _ (start .pre .0), start .pre .1)
+roots-start-requires c κs = accepted _ (c .before .pre .0 .0) .header .long
 
 sub-count-facts : tie.Need-sub-count-facts
-sub-count-facts c = rw (c .before .before .before .before .roots-start .ensures .0) (omega (arith, accepted _ (c .before .before .before .before .before .before .pre .0) .header .whole))
+sub-count-facts c = rw (c .roots-start .ensures .0) (omega (arith, accepted _ (c .before .before .pre .0 .0) .header .whole))
 
 part-count-facts-start : tie.Need-part-count-facts-start
-part-count-facts-start c = rw (c .before .before .before .before .roots-start .ensures .0) (omega (arith, accepted _ (c .before .before .before .before .before .before .pre .0) .header .whole))
+part-count-facts-start c = rw (c .roots-start .ensures .0) (omega (arith, accepted _ (c .before .before .pre .0 .0) .header .whole))
 
 part-count-facts-end : tie.Need-part-count-facts-end
 part-count-facts-end c = search needs
 
 roots-requires : tie.Need-roots-requires
-roots-requires c κs = accepted _ (c .before .before .before .before .before .before .before .pre .0) .header .long
+roots-requires c κs = accepted _ (c .before .before .before .pre .0 .0) .header .long
 
 count-facts-requires : tie.Need-count-facts-requires
-count-facts-requires c κs =
-    let start = c .before .before .before .before .before .before .before .before in
-    rw (part-from, c .before .before .before .before .before .before .roots-start .ensures .0, c .roots .ensures .0) (roots-within _ (start .pre .0))
-
-abbrev start : tie.After-count-facts → tie.Start
-start c = c .before .before .before .before .before .before .before .before .before
-
--- with the pairs the sum is K
-total : (c : tie.After-count-facts) → let t = now (start c .args .theory) in
-    c .before .before .before .count-rules .result + c .count-facts .result + pairCount t ≡ ruleTotal t
-total c =
-    let facts = rw (part-from, c .before .before .before .before .before .before .before .roots-start .ensures .0, c .before .roots .ensures .0) at (c .count-facts .ensures) in
-    let rules = rw (c .before .before .before .before .atoms .ensures .0, c .before .before .before .before .before .before .nodes .ensures .0, part-from) at (c .before .before .before .count-rules .ensures) in
-    omega (arith, rules, facts, ruleTotal-parts (now (start c .args .theory)) (start c .pre .0) (now (start c .args .terms)) (start c .pre .1))
-
-within : (c : tie.After-count-facts) → ruleTotal (now (start c .args .theory)) ≤ largestK
-within c = accepted-total (now (start c .args .theory)) (start c .pre .0)
-
-add-result : tie.Need-add-result
-add-result c = omega (arith, total c, within c)
+count-facts-requires c κs = rw (part-from, c .before .before .roots-start .ensures .0, c .roots .ensures .0) (roots-within _ (c .before .before .before .before .pre .0 .0))
 
 pairs-requires : tie.Need-pairs-requires
-pairs-requires c κs = accepted _ (start c .pre .0) .header .long
+pairs-requires c κs = accepted _ (c .before .before .before .before .before .pre .0 .0) .header .long
 
-add-result-2 : tie.Need-add-result-2
-add-result-2 c = omega (arith, total (c .before), within (c .before), c .pairs .ensures .0)
+abbrev start : tie.After-pairs → tie.Start
+start c = c .before .before .before .before .before .before
+
+-- with the pairs' all rules are counted,
+total : (c : tie.After-pairs) → let args = start c .args in let facts = c .before .count-facts .result in
+    Counted (flat (bookOf (now (args .theory))) .rules) (args .rules + facts .rules + c .pairs .result) (args .literals + facts .literals + c .pairs .result * 2)
+total c =
+    let t = now (start c .args .theory) in
+    let pre = start c .pre in
+    let facts = rw (part-from, c .before .before .before .before .roots-start .ensures .0, c .before .before .roots .ensures .0) at (c .before .count-facts .ensures) in
+    let pairs : Counted (pairsTo (pairSection t) (pairCount t)) (c .pairs .result) (c .pairs .result * 2)
+    = subst (λ n. Counted (pairsTo (pairSection t) (pairCount t)) n (n * 2)) (sym (c .pairs .ensures .0)) (counted-pairs (pairSection t) (pairCount t)) in
+    counted-more (counted-more (pre .1) facts refl) pairs (accepted-rules t (pre .0 .0) (now (start c .args .terms)) (pre .0 .1))
+
+-- and they are few
+within : (c : tie.After-pairs) → ruleTotal (now (start c .args .theory)) ≤ largestK
+within c = accepted-total (now (start c .args .theory)) (start c .pre .0 .0)
+
+add-t9 : tie.Need-add-t9
+add-t9 c = omega (arith, total (c .before), within (c .before))
+
+add-t12 : tie.Need-add-t12
+add-t12 c = omega (arith, total (c .before), within (c .before))
+
+add-t13 : tie.Need-add-t13
+add-t13 c = omega (arith, total (c .before .before), within (c .before .before))
+
+mul-t14 : tie.Need-mul-t14
+mul-t14 c = omega (arith, total (c .before .before), within (c .before .before))
+
+add-t15 : tie.Need-add-t15
+add-t15 c = omega (arith, total (c .before .before), within (c .before .before))
 
 returns : tie.Need-returns
-returns c = (rw (c .pairs .ensures .0) (total (c .before)), omega (arith, total (c .before), within (c .before), c .pairs .ensures .0))
+returns c = let all = total (c .before .before) in (all, omega (arith, all .all, within (c .before .before)))
 
 pub count-spec : {M : Type 1} → statement M
 count-spec =
     tie.close
     (tie.spec
     roots-start-requires
-    nodes-requires
-    sub-count-rules
-    part-count-rules-start
-    part-count-rules-end
-    atoms-requires
-    count-rules-requires
     sub-count-facts
     part-count-facts-start
     part-count-facts-end
     roots-requires
     count-facts-requires
-    add-result
     pairs-requires
-    add-result-2
+    add-t9
+    add-t12
+    add-t13
+    mul-t14
+    add-t15
     returns)

@@ -1,37 +1,54 @@
 -- `count_node` counts a node's rules: where no term is a constant every row stays, and else the rows are counted. Assumes nothing.
-use mathlib.Core.Path.{sym, ap, _∙_}
-use mathlib.Core.List.{List, []}
-use Prim.Native.Nat.{ℕ}
+use mathlib.Core.Path.{sym, _∙_}
+use mathlib.Core.List.{[]}
 use native.Mathlib.Omega.{arith}
 use lib.ListN.{getD}
 use denote.Ref.{now}
 use borrow.Author.Needs.{needs}
 use Rattle.table.proofs.Rows.{kind-within}
-use Rattle.translation.proofs.Turns.{kindRules-names}
+use Rattle.translation.specs.Turns.{kindRules, Counted}
+use Rattle.translation.proofs.Counting.{counted-names}
 use Rattle.translation.proofs.count_node.Statement.{statement}
 use Rattle.translation.proofs.count_node.Tie as tie
 
 all-names-requires : tie.Need-all-names-requires
 all-names-requires c κs = search needs
 
-mul-result : tie.Need-mul-result
-mul-result c = search needs
+-- the kind's rows and their literals are its rules' where no term is a constant
+names : (c : tie.Then1) → let start = c .before .before in let row = getD (now (start .args .index)) (start .args .kind) [] in
+    Counted (kindRules (now (start .args .terms)) (start .args .kind)) (getD row 1 0) (getD row 3 0)
+names c =
+    let start = c .before .before in
+    rw (start .pre .counts) (counted-names (now (start .args .terms)) (sym (c .before .all-names .ensures) ∙ c .if1 .taken) (start .args .kind) (start .pre .known))
 
-index-1-result : tie.Need-index-1-result
-index-1-result c = search needs
+mul-t6 : tie.Need-mul-t6
+mul-t6 c = search needs
 
-index-2-result : tie.Need-index-2-result
-index-2-result c = search needs
+index-1-t11 : tie.Need-index-1-t11
+index-1-t11 c = search needs
 
-cast-result : tie.Need-cast-result
-cast-result c = omega (arith, kind-within _ _ _ (c .before .before .before .pre))
+index-2-t11 : tie.Need-index-2-t11
+index-2-t11 c = search needs
+
+cast-t12 : tie.Need-cast-t12
+cast-t12 c = omega (arith, kind-within _ _ _ (c .before .before .before .pre))
+
+mul-t13 : tie.Need-mul-t13
+mul-t13 c = search needs
+
+index-1-t18 : tie.Need-index-1-t18
+index-1-t18 c = search needs
+
+index-2-t18 : tie.Need-index-2-t18
+index-2-t18 c = search needs
+
+cast-t19 : tie.Need-cast-t19
+cast-t19 c =
+    let named = c .before .before in
+    omega (arith, kind-within _ _ _ (named .before .before .pre), names named .few)
 
 returns : tie.Need-returns
-returns c =
-    let named = c .before in
-    let start = named .before .before in
-    ap (λ (l : List (List ℕ)). getD (getD l (start .args .kind) []) 1 0) (start .pre .counts)
-    ∙ kindRules-names (now (start .args .terms)) (sym (named .before .all-names .ensures) ∙ named .if1 .taken) (start .args .kind) (start .pre .known)
+returns c = names (c .before .before)
 
 count-rows-requires : tie.Need-count-rows-requires
 count-rows-requires c κs = search needs
@@ -44,10 +61,14 @@ count-node-spec =
     tie.close
     (tie.spec
     all-names-requires
-    mul-result
-    index-1-result
-    index-2-result
-    cast-result
+    mul-t6
+    index-1-t11
+    index-2-t11
+    cast-t12
+    mul-t13
+    index-1-t18
+    index-2-t18
+    cast-t19
     returns
     count-rows-requires
     returns-2)

@@ -10,7 +10,7 @@ use Rattle.theory.specs.Image.{rootIn}
 use Rattle.program.specs.Image.{rulesBytes}
 use Rattle.flat.specs.Flat.{fact, simplify}
 use Rattle.table.specs.OneRule.{decode, madeBytes}
-use Rattle.table.proofs.OneRule.{madeOf-few, madeBytes-madeOf}
+use Rattle.table.proofs.OneRule.{fact-few, madeBytes-madeOf}
 use Rattle.translation.specs.Turns.{factsTo, scratchTerm}
 use Rattle.translation.proofs.Turns.{factsTo-none, factsTo-more}
 use Rattle.translation.proofs.Writing.{written-no-rules, bytes-more, bytes-fit}
@@ -18,22 +18,22 @@ use Rattle.translation.proofs.write_facts.Statement.{statement}
 use Rattle.translation.proofs.write_facts.Tie as tie
 
 abbrev Inv-loop : tie.InvT-loop
-Inv-loop out₀ roots count terms at₀ done₀ out at done = Written (rulesBytes (factsTo (scratchTerm terms) roots done)) out₀ out at × (done ≤ count)
+Inv-loop out₀ packed roots count terms at₀ done₀ out at done = Written (rulesBytes packed (factsTo (scratchTerm terms) roots done)) out₀ out at × (done ≤ count)
 
 abbrev μ-loop : tie.MeasureT-loop
-μ-loop out₀ roots count terms at₀ done₀ out at done = count - done
+μ-loop out₀ packed roots count terms at₀ done₀ out at done = count - done
 
 loop-holds : tie.Need-loop-holds Inv-loop μ-loop
-loop-holds c = (written-no-rules _ _ (factsTo-none _ _), search needs)
+loop-holds c = (written-no-rules _ _ _ (factsTo-none _ _), search needs)
 
 -- the root's fact fits behind those written
-fits : (c : tie.In-loop Inv-loop μ-loop) → let start = c .before .before .before .before in let f = scratchTerm (now (start .args .terms)) in let s = now (start .args .roots) in let i = c .before .loop .done in
-    length (rulesBytes (factsTo f s i)) + length (rulesBytes (simplify (fact (f (rootIn s i))))) ≤ length (now (start .args .out))
+fits : (c : tie.In-loop Inv-loop μ-loop) → let start = c .before .before .before .before in let p = start .args .packed in let f = scratchTerm (now (start .args .terms)) in let s = now (start .args .roots) in let i = c .before .loop .done in
+    length (rulesBytes p (factsTo f s i)) + length (rulesBytes p (simplify (fact (f (rootIn s i))))) ≤ length (now (start .args .out))
 fits c =
     let start = c .before .before .before .before in
     let f = scratchTerm (now (start .args .terms)) in
     let s = now (start .args .roots) in
-    bytes-fit (factsTo f s) (λ i. simplify (fact (f (rootIn s i)))) (factsTo-more f s) (c .before .loop .done) (start .args .count) _ (search needs) (start .pre .1)
+    bytes-fit (start .args .packed) (factsTo f s) (λ i. simplify (fact (f (rootIn s i)))) (factsTo-more f s) (c .before .loop .done) (start .args .count) _ (search needs) (start .pre .1)
 
 mul-u16-at : tie.Need-mul-u16-at Inv-loop μ-loop
 mul-u16-at c = search needs
@@ -55,11 +55,11 @@ fact-of-requires c κs = search needs
 
 -- what was made is the root's fact
 bytes-are : (c : tie.After-fact-of Inv-loop μ-loop) → let loop = c .before .before .before .before .before in let start = loop .before .before .before in
-    madeBytes (c .fact-of .result) ≡ rulesBytes (simplify (fact (scratchTerm (now (start .args .terms)) (rootIn (now (start .args .roots)) (loop .loop .done)))))
+    madeBytes (start .args .packed) (c .fact-of .result) ≡ rulesBytes (start .args .packed) (simplify (fact (scratchTerm (now (start .args .terms)) (rootIn (now (start .args .roots)) (loop .loop .done)))))
 bytes-are c =
     let start = c .before .before .before .before .before .before .before .before in
-    ap madeBytes (c .fact-of .ensures) ∙ madeBytes-madeOf _
-    ∙ ap (λ t. rulesBytes (simplify (fact (decode t)))) (c .before .wide-term .ensures .0 ∙ ap (λ r. getD (now (start .args .terms)) r 0) (c .before .before .before .u16-at .ensures .0))
+    ap (madeBytes (start .args .packed)) (c .fact-of .ensures) ∙ madeBytes-madeOf (start .args .packed) _ (fact-few (decode (c .before .wide-term .result)))
+    ∙ ap (λ t. rulesBytes (start .args .packed) (simplify (fact (decode t)))) (c .before .wide-term .ensures .0 ∙ ap (λ r. getD (now (start .args .terms)) r 0) (c .before .before .before .u16-at .ensures .0))
 
 sub-put-rule : tie.Need-sub-put-rule Inv-loop μ-loop
 sub-put-rule c =
@@ -78,9 +78,7 @@ put-rule-requires : tie.Need-put-rule-requires Inv-loop μ-loop
 put-rule-requires c κs =
     let made = c .before in
     let turn = made .before .before .before .before in
-    let few = madeOf-few (fact (decode (made .before .wide-term .result))) in
-    let room = turn-room (turn .before .loop .inv .0) (fits turn) in
-    (rw (made .fact-of .ensures) (omega (arith, few)), rw (made .fact-of .ensures) (omega (arith, few)), rw (made .fact-of .ensures) (omega (arith, few)), rw (bytes-are made) room)
+    (rw (made .fact-of .ensures) (fact-few (decode (made .before .wide-term .result))), rw (bytes-are made) (turn-room (turn .before .loop .inv .0) (fits turn)))
 
 add-at : tie.Need-add-at Inv-loop μ-loop
 add-at c =
@@ -105,8 +103,8 @@ loop-again c =
     let put = c .before .before .put-rule .ensures in
     let f = scratchTerm (now (start .args .terms)) in
     let s = now (start .args .roots) in (
-      rw (bytes-more (factsTo f s) (λ i. simplify (fact (f (rootIn s i)))) (factsTo-more f s) (loop .loop .done))
-          (turn (loop .loop .inv .0) (rulesBytes (simplify (fact (f (rootIn s (loop .loop .done)))))) (fits (made .before .before .before .before)) (rw (bytes-are made) at (put .0)) (rw (bytes-are made) at (put .1))),
+      rw (bytes-more (start .args .packed) (factsTo f s) (λ i. simplify (fact (f (rootIn s i)))) (factsTo-more f s) (loop .loop .done))
+          (turn (loop .loop .inv .0) (rulesBytes (start .args .packed) (simplify (fact (f (rootIn s (loop .loop .done)))))) (fits (made .before .before .before .before)) (rw (bytes-are made) at (put .0)) (rw (bytes-are made) at (put .1))),
       search needs,
     )
 

@@ -10,9 +10,9 @@ use Rattle.wire.proofs.Laws.{Written, turn-room, turn}
 use Rattle.program.specs.Image.{rulesBytes}
 use Rattle.flat.specs.Flat.{simplify}
 use Rattle.table.specs.Shapes.{rowCount, kindShape, Fillable}
-use Rattle.table.specs.OneRule.{ruleIn, madeOf, madeBytes}
+use Rattle.table.specs.OneRule.{ruleIn, madeOf, Few, madeBytes}
 use Rattle.table.proofs.Rows.{kind-within, row-within, row-read, row-fillable}
-use Rattle.table.proofs.OneRule.{madeOf-few, length-ruleIn, madeBytes-madeOf}
+use Rattle.table.proofs.OneRule.{ruleIn-few, madeBytes-madeOf}
 use Rattle.translation.specs.Turns.{rowsTo}
 use Rattle.translation.proofs.Turns.{rowsTo-none, rowsTo-more, rowsTo-all}
 use Rattle.translation.proofs.Writing.{written-no-rules, bytes-more, bytes-fit}
@@ -20,10 +20,10 @@ use Rattle.translation.proofs.write_node.Statement.{statement}
 use Rattle.translation.proofs.write_node.Tie as tie
 
 abbrev Inv-loop : tie.InvT-loop
-Inv-loop out₀ table index kind terms first count at₀ j₀ out at j = Written (rulesBytes (rowsTo terms kind j)) out₀ out at × (j ≤ count)
+Inv-loop out₀ packed table index kind terms first count at₀ j₀ out at j = Written (rulesBytes packed (rowsTo terms kind j)) out₀ out at × (j ≤ count)
 
 abbrev μ-loop : tie.MeasureT-loop
-μ-loop out₀ table index kind terms first count at₀ j₀ out at j = count - j
+μ-loop out₀ packed table index kind terms first count at₀ j₀ out at j = count - j
 
 mul-first : tie.Need-mul-first Inv-loop μ-loop
 mul-first c = search needs
@@ -50,9 +50,9 @@ cast-count : tie.Need-cast-count Inv-loop μ-loop
 cast-count c = omega (arith, kind-within _ _ _ (c .before .before .before .pre .0))
 
 loop-holds : tie.Need-loop-holds Inv-loop μ-loop
-loop-holds c = (written-no-rules _ _ (rowsTo-none _ _), search needs)
+loop-holds c = (written-no-rules _ _ _ (rowsTo-none _ _), search needs)
 
--- the row stands in the table, and has few literals
+-- the row stands in the table, and can be filled
 within : (c : tie.In-loop Inv-loop μ-loop) → let start = c .before .before .before .before .before in
     getD (getD (now (start .args .index)) (start .args .kind) []) 0 0 + c .before .loop .j < 14
 within c =
@@ -67,14 +67,14 @@ good c =
     row-fillable (now (start .args .table)) (now (start .args .index)) (start .args .kind) (start .pre .0) (c .before .loop .j) (c .loop-test .taken)
 
 -- the row's rule fits behind those written
-fits : (c : tie.In-loop Inv-loop μ-loop) → let start = c .before .before .before .before .before in let t = now (start .args .terms) in let k = start .args .kind in let j = c .before .loop .j in
-    length (rulesBytes (rowsTo t k j)) + length (rulesBytes (simplify (ruleIn (kindShape k j) t))) ≤ length (now (start .args .out))
+fits : (c : tie.In-loop Inv-loop μ-loop) → let start = c .before .before .before .before .before in let p = start .args .packed in let t = now (start .args .terms) in let k = start .args .kind in let j = c .before .loop .j in
+    length (rulesBytes p (rowsTo t k j)) + length (rulesBytes p (simplify (ruleIn (kindShape k j) t))) ≤ length (now (start .args .out))
 fits c =
     let start = c .before .before .before .before .before in
     let t = now (start .args .terms) in
     let k = start .args .kind in
     let last : c .before .loop .j < rowCount k = omega (arith, ap (λ (l : List (List ℕ)). getD (getD l k []) 1 0) (start .pre .0 .counts)) in
-    bytes-fit (rowsTo t k) (λ j. simplify (ruleIn (kindShape k j) t)) (rowsTo-more t k) (c .before .loop .j) (rowCount k) _ last (rw (rowsTo-all t k (start .pre .0 .known)) (start .pre .1))
+    bytes-fit (start .args .packed) (rowsTo t k) (λ j. simplify (ruleIn (kindShape k j) t)) (rowsTo-more t k) (c .before .loop .j) (rowCount k) _ last (rw (rowsTo-all t k (start .pre .0 .known)) (start .pre .1))
 
 add-make : tie.Need-add-make Inv-loop μ-loop
 add-make c = omega (arith, within c)
@@ -88,14 +88,19 @@ index-1-make c = within c
 make-requires : tie.Need-make-requires Inv-loop μ-loop
 make-requires c κs = good (c .before)
 
--- what was made is the row's rule
+-- what was made has few literals, and is the row's rule
+few : (c : tie.After-make Inv-loop μ-loop) → let turn = c .before .before in let start = turn .before .before .before .before .before in
+    let s = getD (now (start .args .table)) (getD (getD (now (start .args .index)) (start .args .kind) []) 0 0 + turn .before .loop .j) [] in
+    Few (madeOf (ruleIn s (now (start .args .terms))))
+few c = ruleIn-few _ (now (c .before .before .before .before .before .before .before .args .terms)) (good (c .before .before))
+
 bytes-are : (c : tie.After-make Inv-loop μ-loop) → let loop = c .before .before .before in let start = loop .before .before .before .before in
-    madeBytes (c .make .result) ≡ rulesBytes (simplify (ruleIn (kindShape (start .args .kind) (loop .loop .j)) (now (start .args .terms))))
+    madeBytes (start .args .packed) (c .make .result) ≡ rulesBytes (start .args .packed) (simplify (ruleIn (kindShape (start .args .kind) (loop .loop .j)) (now (start .args .terms))))
 bytes-are c =
     let loop = c .before .before .before in
     let start = loop .before .before .before .before in
-    ap madeBytes (c .make .ensures) ∙ madeBytes-madeOf _
-    ∙ ap (λ s. rulesBytes (simplify (ruleIn s (now (start .args .terms)))))
+    ap (madeBytes (start .args .packed)) (c .make .ensures) ∙ madeBytes-madeOf (start .args .packed) _ (few c)
+    ∙ ap (λ s. rulesBytes (start .args .packed) (simplify (ruleIn s (now (start .args .terms)))))
     (row-read (now (start .args .table)) (now (start .args .index)) (start .args .kind) (start .pre .0) (loop .loop .j) (c .before .before .loop-test .taken))
 
 sub-put-rule : tie.Need-sub-put-rule Inv-loop μ-loop
@@ -115,14 +120,7 @@ put-rule-requires : tie.Need-put-rule-requires Inv-loop μ-loop
 put-rule-requires c κs =
     let made = c .before in
     let turn = made .before .before in
-    let start = turn .before .before .before .before .before in
-    let shape = getD (now (start .args .table)) (getD (getD (now (start .args .index)) (start .args .kind) []) 0 0 + turn .before .loop .j) [] in
-    let terms = now (start .args .terms) in
-    let few = madeOf-few (ruleIn shape terms) in
-    let room = turn-room (turn .before .loop .inv .0) (fits turn) in
-    let r = madeOf (ruleIn shape terms) in
-    let small : (r .heads < 256) × (r .positives < 256) × (r .negatives < 256) = omega (arith, few, length-ruleIn shape terms, good turn) in
-    (rw (made .make .ensures) (small .0), rw (made .make .ensures) (small .1), rw (made .make .ensures) (small .2), rw (bytes-are made) room)
+    (rw (made .make .ensures) (few made), rw (bytes-are made) (turn-room (turn .before .loop .inv .0) (fits turn)))
 
 add-at : tie.Need-add-at Inv-loop μ-loop
 add-at c =
@@ -145,8 +143,8 @@ loop-again c =
     let put = c .before .before .put-rule .ensures in
     let terms = now (start .args .terms) in
     let k = start .args .kind in (
-      rw (bytes-more (rowsTo terms k) (λ j. simplify (ruleIn (kindShape k j) terms)) (rowsTo-more terms k) (loop .loop .j))
-          (turn (loop .loop .inv .0) (rulesBytes (simplify (ruleIn (kindShape k (loop .loop .j)) terms))) (fits (made .before .before)) (rw (bytes-are made) at (put .0)) (rw (bytes-are made) at (put .1))),
+      rw (bytes-more (start .args .packed) (rowsTo terms k) (λ j. simplify (ruleIn (kindShape k j) terms)) (rowsTo-more terms k) (loop .loop .j))
+          (turn (loop .loop .inv .0) (rulesBytes (start .args .packed) (simplify (ruleIn (kindShape k (loop .loop .j)) terms))) (fits (made .before .before)) (rw (bytes-are made) at (put .0)) (rw (bytes-are made) at (put .1))),
       search needs,
     )
 

@@ -19,10 +19,10 @@ use Rattle.translation.proofs.write_nodes.Statement.{statement}
 use Rattle.translation.proofs.write_nodes.Tie as tie
 
 abbrev Inv-loop : tie.InvT-loop
-Inv-loop out₀ nodes count atoms terms table index next₀ at₀ k₀ out next at k = Written (rulesBytes (rulesTo atoms nodes k)) out₀ out at × (next ≡ nextTo atoms nodes k) × (k ≤ count)
+Inv-loop out₀ packed nodes count atoms terms table index next₀ at₀ k₀ out next at k = Written (rulesBytes packed (rulesTo atoms nodes k)) out₀ out at × (next ≡ nextTo atoms nodes k) × (k ≤ count)
 
 abbrev μ-loop : tie.MeasureT-loop
-μ-loop out₀ nodes count atoms terms table index next₀ at₀ k₀ out next at k = count - k
+μ-loop out₀ packed nodes count atoms terms table index next₀ at₀ k₀ out next at k = count - k
 
 shapes-requires : tie.Need-shapes-requires Inv-loop μ-loop
 shapes-requires c κs = search needs
@@ -31,16 +31,16 @@ kinds-requires : tie.Need-kinds-requires Inv-loop μ-loop
 kinds-requires c κs = search needs
 
 loop-holds : tie.Need-loop-holds Inv-loop μ-loop
-loop-holds c = (written-no-rules _ _ (rulesTo-none _ _), sym (nextTo-none _ _), search needs)
+loop-holds c = (written-no-rules _ _ _ (rulesTo-none _ _), sym (nextTo-none _ _), search needs)
 
 -- the node's rules fit behind those written
-fits : (c : tie.In-loop Inv-loop μ-loop) → let start = c .before .before .before .before .before .before in let A = start .args .atoms in let s = now (start .args .nodes) in let k = c .before .loop .k in
-    length (rulesBytes (rulesTo A s k)) + length (rulesBytes (nodeRules (termsTo A s k) (nextTo A s k) (nodeIn s k))) ≤ length (now (start .args .out))
+fits : (c : tie.In-loop Inv-loop μ-loop) → let start = c .before .before .before .before .before .before in let p = start .args .packed in let A = start .args .atoms in let s = now (start .args .nodes) in let k = c .before .loop .k in
+    length (rulesBytes p (rulesTo A s k)) + length (rulesBytes p (nodeRules (termsTo A s k) (nextTo A s k) (nodeIn s k))) ≤ length (now (start .args .out))
 fits c =
     let start = c .before .before .before .before .before .before in
     let A = start .args .atoms in
     let s = now (start .args .nodes) in
-    bytes-fit (rulesTo A s) (λ k. nodeRules (termsTo A s k) (nextTo A s k) (nodeIn s k)) (rulesTo-more A s) (c .before .loop .k) (start .args .count) _ (search needs) (start .pre .1)
+    bytes-fit (start .args .packed) (rulesTo A s) (λ k. nodeRules (termsTo A s k) (nextTo A s k) (nodeIn s k)) (rulesTo-more A s) (c .before .loop .k) (start .args .count) _ (search needs) (start .pre .1)
 
 kind-at-requires : tie.Need-kind-at-requires Inv-loop μ-loop
 kind-at-requires c κs = search needs
@@ -126,8 +126,8 @@ loop-again c =
     let A = start .args .atoms in
     let s = now (start .args .nodes) in
     let part : ℕ → List Rule = λ k. nodeRules (termsTo A s k) (nextTo A s k) (nodeIn s k) in (
-      rw (bytes-more (rulesTo A s) part (rulesTo-more A s) (loop .loop .k))
-          (turn (loop .loop .inv .0) (rulesBytes (part (loop .loop .k))) (fits (terms .before .before)) (rw (rules-are terms) at (put .0)) (rw (rules-are terms) at (put .1))),
+      rw (bytes-more (start .args .packed) (rulesTo A s) part (rulesTo-more A s) (loop .loop .k))
+          (turn (loop .loop .inv .0) (rulesBytes (start .args .packed) (part (loop .loop .k))) (fits (terms .before .before)) (rw (rules-are terms) at (put .0)) (rw (rules-are terms) at (put .1))),
       rw (nextTo-more, ← known (terms .before) .labels, ← loop .loop .inv .1),
       search needs,
     )

@@ -37,7 +37,7 @@ atoms-requires c κs = accepted _ (c .before .before .before .before .before .be
 write-nodes-requires : tie.Need-write-nodes-requires
 write-nodes-requires c κs =
     let start = c .before .before .before .before .before .before .before in
-    let fit = accepted-fit (now (start .args .theory)) (start .pre .0 .0) (now (start .args .terms)) (start .pre .0 .1) (length (now (start .args .out))) (start .pre .1) in
+    let fit = accepted-fit (now (start .args .theory)) (start .pre .0 .0) (start .args .packed) (now (start .args .terms)) (start .pre .0 .1) (length (now (start .args .out))) (start .pre .1) in
     rw (c .atoms .ensures .0, c .before .before .before .nodes .ensures .0, part-from) ((nodes-accepted _ (start .pre .0 .0), start .pre .0 .1), omega arith)
 
 abbrev to-start : tie.After-write-nodes → tie.Start
@@ -48,17 +48,17 @@ image c = now (to-start c .args .theory)
 
 -- the bytes of the three parts
 abbrev nodes-bytes : tie.After-write-nodes → List ℕ
-nodes-bytes c = let t = image c in rulesBytes (rulesTo (atomCount t) (nodeSection t) (nodeCount t))
+nodes-bytes c = let t = image c in rulesBytes (to-start c .args .packed) (rulesTo (atomCount t) (nodeSection t) (nodeCount t))
 
 abbrev facts-bytes : tie.After-write-nodes → List ℕ
-facts-bytes c = let t = image c in rulesBytes (factsTo (scratchTerm (now (to-start c .args .terms))) (rootSection t) (rootCount t))
+facts-bytes c = let t = image c in rulesBytes (to-start c .args .packed) (factsTo (scratchTerm (now (to-start c .args .terms))) (rootSection t) (rootCount t))
 
 abbrev pairs-bytes : tie.After-write-nodes → List ℕ
-pairs-bytes c = let t = image c in rulesBytes (pairsTo (pairSection t) (pairCount t))
+pairs-bytes c = let t = image c in rulesBytes (to-start c .args .packed) (pairsTo (pairSection t) (pairCount t))
 
 -- all of them fit
 fit : (c : tie.After-write-nodes) → length (nodes-bytes c) + length (facts-bytes c) + length (pairs-bytes c) ≤ length (now (to-start c .args .out))
-fit c = let start = to-start c in accepted-fit (image c) (start .pre .0 .0) (now (start .args .terms)) (start .pre .0 .1) _ (start .pre .1)
+fit c = let start = to-start c in accepted-fit (image c) (start .pre .0 .0) (start .args .packed) (now (start .args .terms)) (start .pre .0 .1) _ (start .pre .1)
 
 -- the nodes' rules are written,
 wrote : (c : tie.After-write-nodes) → Written (nodes-bytes c) (now (to-start c .args .out)) (c .write-nodes .last .0) (c .write-nodes .result)
@@ -109,7 +109,7 @@ wrote-facts : (c : tie.After-slice-known3) → let n = to-nodes c in
 wrote-facts c =
     let n = to-nodes c in
     let put = c .before .before .write-facts .ensures in
-    let same = lent (λ s R. rulesBytes (factsTo (scratchTerm (now (to-start n .args .terms))) s R)) (image n) (n .before .before .before .before .before .roots-start .ensures .0) (c .before .before .before .roots .ensures .0) in
+    let same = lent (λ s R. rulesBytes (to-start n .args .packed) (factsTo (scratchTerm (now (to-start n .args .terms))) s R)) (image n) (n .before .before .before .before .before .roots-start .ensures .0) (c .before .before .before .roots .ensures .0) in
     turn-made (wrote n) same (fit-facts n) (put .0) (put .1)
 
 add-end : tie.Need-add-end
@@ -157,7 +157,7 @@ wrote-pairs : (c : tie.After-slice-known4) → let f = to-facts c in let n = to-
 wrote-pairs c =
     let f = to-facts c in
     let put = c .before .before .write-pairs .ensures in
-    let same = lent (λ s P. rulesBytes (pairsTo s P)) (image (to-nodes f)) (c .before .before .before .before .before .pairs-start .ensures .0) (c .before .before .before .pairs .ensures .0) in
+    let same = lent (λ s P. rulesBytes (to-start (to-nodes f) .args .packed) (pairsTo s P)) (image (to-nodes f)) (c .before .before .before .before .before .pairs-start .ensures .0) (c .before .before .before .pairs .ensures .0) in
     turn-made (wrote-facts f) same (fit-pairs f) (put .0) (put .1)
 
 add-result : tie.Need-add-result
@@ -170,7 +170,7 @@ returns : tie.Need-returns
 returns c =
     let start = to-start (to-nodes (to-facts c)) in
     let w = wrote-pairs c in
-    rw (accepted-bytes (now (start .args .theory)) (start .pre .0 .0) (now (start .args .terms)) (start .pre .0 .1)) (w .end, w .bytes)
+    rw (accepted-bytes (now (start .args .theory)) (start .pre .0 .0) (start .args .packed) (now (start .args .terms)) (start .pre .0 .1)) (w .end, w .bytes)
 
 pub write-rules-spec : {M : Type 1} → statement M
 write-rules-spec =
