@@ -130,16 +130,17 @@ pub fn longest(random: &mut Random, atoms: usize, nodes: usize, roots: usize, pa
     grown(random, &style, first, nodes, roots, pairs)
 }
 
-/// A random program of exactly these sizes.
-pub fn program(random: &mut Random, atoms: usize, all: usize, rules: usize) -> Program {
-    let rules = (0..rules).map(|_| rule(random, all)).collect();
+/// A random program of exactly these sizes, whose rules have up to `most` literals.
+pub fn program(random: &mut Random, atoms: usize, all: usize, rules: usize, most: usize) -> Program {
+    let rules = (0..rules).map(|_| rule(random, all, most)).collect();
     Program { atoms, all, rules }
 }
 
-fn rule(random: &mut Random, all: usize) -> Rule {
+/// A random rule. The one without literals, which nothing satisfies, is rare.
+fn rule(random: &mut Random, all: usize, most: usize) -> Rule {
     let mut rule = Rule::default();
-    if all > 0 {
-        for _ in 0..random.below(4) {
+    if all > 0 && !random.chance(4) {
+        for _ in 0..random.within(1, most) {
             let atom = random.below(all);
             match random.below(3) {
                 0 => rule.heads.push(atom),
@@ -154,7 +155,7 @@ fn rule(random: &mut Random, all: usize) -> Rule {
 /// A program whose one answer set is `truths` atoms: each is a fact, and every other rule asks for an atom outside.
 pub fn fact_program(random: &mut Random, all: usize, rules: usize, truths: usize) -> (Program, Vec<u8>) {
     let set = set(random, all, truths);
-    let mut program = program(random, 0, all, rules.max(truths));
+    let mut program = program(random, 0, all, rules.max(truths), 3);
     let outside: Vec<usize> = (0..all).filter(|&atom| set[atom] == 0).collect();
     for rule in &mut program.rules {
         rule.heads.truncate(2);

@@ -52,6 +52,11 @@ pub fn get2(bytes: &[u8], at: usize) -> usize {
     bytes[at] as usize + 256 * bytes[at + 1] as usize
 }
 
+/// The 4-byte number at `at`.
+pub fn get4(bytes: &[u8], at: usize) -> usize {
+    get2(bytes, at) + 65536 * get2(bytes, at + 2)
+}
+
 impl Book {
     /// A book without pairs.
     pub fn new(atoms: usize, nodes: Vec<Node>, roots: Vec<usize>) -> Book {
@@ -269,40 +274,89 @@ impl Rule {
     pub fn new(heads: &[usize], positives: &[usize], negatives: &[usize]) -> Rule {
         Rule { heads: heads.to_vec(), positives: positives.to_vec(), negatives: negatives.to_vec() }
     }
+
+    pub fn literals(&self) -> usize {
+        self.heads.len() + self.positives.len() + self.negatives.len()
+    }
+}
+
+/// The rule `own` of a fixed image.
+fn fixed_rule(image: &[u8], own: usize) -> Rule {
+    let at = 16 + 10 * own;
+    let slots: Vec<usize> = (0..3).map(|slot| get2(image, at + 4 + 2 * slot)).collect();
+    let heads = image[at] as usize;
+    let positives = heads + image[at + 1] as usize;
+    let negatives = positives + image[at + 2] as usize;
+    Rule::new(&slots[..heads], &slots[heads..positives], &slots[positives..negatives])
+}
+
+/// The rules of an image that is packed, whatever the rest of its header says; else which rule is wrong, or how many
+/// there are where bytes are left after them. Row 26 is refused with that place.
+pub fn packed_rules(image: &[u8]) -> Result<Vec<Rule>, usize> {
+    let (all, count) = (get2(image, 2), get2(image, 4));
+    let mut bytes = image[16..].iter().copied();
+    let rules = (0..count).map(|own| packed_rule(&mut bytes, all).ok_or(own)).collect::<Result<_, _>>()?;
+    bytes.next().map_or(Ok(rules), |_| Err(count))
+}
+
+/// Takes a rule off the front, byte by byte; nothing where a byte is wrong or missing.
+fn packed_rule(bytes: &mut impl Iterator<Item = u8>, all: usize) -> Option<Rule> {
+    let mut next = || bytes.next().map(usize::from);
+    let (heads, positives, negatives, zero) = (next()?, next()?, next()?, next()?);
+    if zero != 0 || heads + positives + negatives > 8 {
+        return None;
+    }
+    let mut atom = || Some(next()? + 256 * next()?).filter(|&atom| atom < all);
+    let mut atoms = |count: usize| (0..count).map(|_| atom()).collect::<Option<Vec<usize>>>();
+    Some(Rule { heads: atoms(heads)?, positives: atoms(positives)?, negatives: atoms(negatives)? })
 }
 
 impl Program {
-    /// The image of the program; counts are not compared with the limits.
+    /// The image of the program in the fixed form. Nothing is compared with the limits, and from its fourth literal on a
+    /// rule has no slots.
     pub fn image(&self) -> Vec<u8> {
+        self.written(0, |slots| slots.resize(3, 0))
+    }
+
+    /// Its image in the packed form; nothing is compared with the limits.
+    pub fn packed(&self) -> Vec<u8> {
+        self.written(1, |_| ())
+    }
+
+    /// Its images in the forms that have room for all its rules, the packed one last.
+    pub fn images(&self) -> Vec<Vec<u8>> {
+        let fixed = self.rules.iter().all(|rule| rule.literals() <= 3).then(|| self.image());
+        fixed.into_iter().chain([self.packed()]).collect()
+    }
+
+    /// The image with this number for its form, in which the slots of each rule become as many as the form wants.
+    fn written(&self, form: usize, adapt: impl Fn(&mut Vec<usize>)) -> Vec<u8> {
+        let mut rules = Vec::new();
+        for rule in &self.rules {
+            let parts = [&rule.heads, &rule.positives, &rule.negatives];
+            parts.iter().for_each(|part| rules.push(part.len() as u8));
+            rules.push(0);
+            let mut slots: Vec<usize> = parts.into_iter().flatten().copied().collect();
+            adapt(&mut slots);
+            slots.into_iter().for_each(|slot| put2(&mut rules, slot));
+        }
         let mut bytes = Vec::new();
         put2(&mut bytes, self.atoms);
         put2(&mut bytes, self.all);
         put2(&mut bytes, self.rules.len());
-        put2(&mut bytes, 0);
+        put2(&mut bytes, form);
         put4(&mut bytes, 16);
-        put4(&mut bytes, 16 + 10 * self.rules.len());
-        for rule in &self.rules {
-            let parts = [&rule.heads, &rule.positives, &rule.negatives];
-            parts.iter().for_each(|part| bytes.push(part.len() as u8));
-            bytes.push(0);
-            let mut slots: Vec<usize> = parts.into_iter().flatten().copied().collect();
-            slots.resize(3, 0);
-            slots.into_iter().for_each(|slot| put2(&mut bytes, slot));
-        }
+        put4(&mut bytes, 16 + rules.len());
+        bytes.extend(rules);
         bytes
     }
 
-    /// Reads an image that a check has accepted.
+    /// Reads an image of either form that a check has accepted.
     pub fn read(image: &[u8]) -> Program {
-        let rule = |own: usize| {
-            let at = 16 + 10 * own;
-            let slots: Vec<usize> = (0..3).map(|slot| get2(image, at + 4 + 2 * slot)).collect();
-            let heads = image[at] as usize;
-            let positives = heads + image[at + 1] as usize;
-            let negatives = positives + image[at + 2] as usize;
-            Rule::new(&slots[..heads], &slots[heads..positives], &slots[positives..negatives])
+        let rules = match get2(image, 6) {
+            0 => (0..get2(image, 4)).map(|own| fixed_rule(image, own)).collect(),
+            _ => packed_rules(image).expect("an accepted image"),
         };
-        let rules = (0..get2(image, 4)).map(rule).collect();
         Program { atoms: get2(image, 0), all: get2(image, 2), rules }
     }
 
