@@ -407,7 +407,66 @@ pub fn answer_sets(atoms: usize, satisfied: impl Fn(&[bool], &[bool]) -> bool) -
 #[cfg(test)]
 mod tests {
     use super::*;
-    use crate::formula;
+    use crate::random::Random;
+    use crate::{formula, generate};
+
+    /// `0 | 2 <-`, the empty rule, and a rule of eight literals.
+    fn program() -> Program {
+        let rules = vec![Rule::new(&[0, 2], &[], &[]), Rule::default(), Rule::new(&[1], &[0, 2, 300], &[0, 1, 2, 1])];
+        Program { atoms: 2, all: 301, rules }
+    }
+
+    #[test]
+    fn bytes_of_a_packed_program() {
+        let header = [2, 0, 45, 1, 3, 0, 1, 0, 16, 0, 0, 0, 48, 0, 0, 0];
+        let rules: [&[u8]; 3] =
+            [&[2, 0, 0, 0, 0, 0, 2, 0], &[0, 0, 0, 0], &[1, 3, 4, 0, 1, 0, 0, 0, 2, 0, 44, 1, 0, 0, 1, 0, 2, 0, 1, 0]];
+        let image = program().packed();
+        assert_eq!((&image[..16], &image[16..]), (&header[..], &rules.concat()[..]));
+        assert_eq!(Program::read(&image), program());
+        // The last rule has no fixed image.
+        assert_eq!(program().images(), [image]);
+        let small = Program { rules: program().rules[..2].to_vec(), ..program() };
+        assert_eq!(small.images(), [small.image(), small.packed()]);
+    }
+
+    #[test]
+    fn written_and_read_back() {
+        let random = &mut Random::new(2);
+        for turn in 0..300 {
+            let most = if turn % 2 == 0 { 3 } else { 8 };
+            let program = generate::program(random, 2, 5, turn % 7, most);
+            let images = program.images();
+            assert!(images.len() == 2 || most == 8);
+            for image in images {
+                assert_eq!(get4(&image, 12), image.len());
+                assert_eq!(Program::read(&image), program);
+            }
+        }
+        for _ in 0..50 {
+            let flat = generate::book(random, 3, 12, 3, 2).flat();
+            assert_eq!(Program::read(&flat.packed()), Program::read(&flat.image()));
+        }
+    }
+
+    #[test]
+    fn packed_rules_that_are_wrong() {
+        let good = program().packed();
+        let with = |at: usize, byte: u8| {
+            let mut image = good.clone();
+            image[at] = byte;
+            packed_rules(&image)
+        };
+        // The rules start at bytes 16, 24 and 28.
+        assert_eq!(packed_rules(&good), Ok(program().rules));
+        assert_eq!([with(4, 2), with(4, 4), with(4, 0)], [Err(2), Err(3), Err(0)]);
+        assert_eq!([with(19, 1), with(27, 9), with(31, 1)], [Err(0), Err(1), Err(2)]);
+        // An atom that is 301, and nine literals.
+        assert_eq!([with(38, 45), with(28, 2)], [Err(2), Err(2)]);
+        assert_eq!(packed_rules(&good[..47]), Err(2));
+        assert_eq!(packed_rules(&good[..27]), Err(1));
+        assert_eq!(packed_rules(&[&good[..], &[0]].concat()), Err(3));
+    }
 
     #[test]
     fn nodes_that_nothing_uses() {

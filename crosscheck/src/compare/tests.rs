@@ -7,6 +7,7 @@ use crate::reference;
 use crate::suite::{Effort, Suite, PARTS};
 
 mod candidates;
+mod packed;
 mod pairs;
 mod unused;
 

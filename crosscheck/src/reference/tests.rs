@@ -6,6 +6,7 @@ use crate::lists::{Book, Program, Rule};
 use crate::{formula, worked};
 
 mod candidates;
+mod packed;
 mod pairs;
 mod unused;
 
