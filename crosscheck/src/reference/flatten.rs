@@ -30,7 +30,8 @@ pub struct Size {
     pub literals: usize,
 }
 
-/// Fills in the terms, numbering the labels, and counts the rules and their literals.
+/// Fills in the terms, numbering the labels, and counts the rules and their literals. It is inlined, so that for a form
+/// that does not ask for the literals they are not counted.
 #[inline(always)]
 pub fn measure(theory: &Theory, terms: &mut Terms) -> Size {
     let mut all = theory.atoms;
@@ -157,22 +158,37 @@ impl<F: Form> Sink for Writer<'_, F> {
         if idle(heads, positives, negatives) {
             return;
         }
-        let length = F::length(1, literals(heads, positives, negatives));
-        let (rule, free) = mem::take(&mut self.free).split_at_mut(length);
-        self.free = free;
-        rule.fill(0);
-        let mut at = 4;
-        let mut put = |part: usize, terms: &[Term]| {
-            for &term in terms {
-                if let Term::Atom(atom) = term {
-                    rule[part] += 1;
-                    rule[at..at + 2].copy_from_slice(&atom.to_le_bytes());
-                    at += 2;
-                }
-            }
-        };
-        put(0, heads);
-        put(1, positives);
-        put(2, negatives);
+        // A packed rule, too, is written over ten bytes where there are so many: those that it does not use belong to the
+        // next one.
+        let free = mem::take(&mut self.free);
+        if F::PACKED && free.len() < 10 {
+            let mut rule = [0; 10];
+            let length = F::length(1, fill(&mut rule, heads, positives, negatives));
+            free[..length].copy_from_slice(&rule[..length]);
+            self.free = &mut free[length..];
+        } else {
+            let literals = fill(&mut free[..10], heads, positives, negatives);
+            self.free = &mut free[F::length(1, literals)..];
+        }
     }
+}
+
+/// Writes a rule over ten bytes, those that it does not use as zeros, and gives the number of its literals.
+#[inline(always)]
+fn fill(rule: &mut [u8], heads: &[Term], positives: &[Term], negatives: &[Term]) -> usize {
+    rule.fill(0);
+    let mut at = 4;
+    let mut put = |part: usize, terms: &[Term]| {
+        for &term in terms {
+            if let Term::Atom(atom) = term {
+                rule[part] += 1;
+                rule[at..at + 2].copy_from_slice(&atom.to_le_bytes());
+                at += 2;
+            }
+        }
+    };
+    put(0, heads);
+    put(1, positives);
+    put(2, negatives);
+    (at - 4) / 2
 }

@@ -1,7 +1,6 @@
 /// What the two forms of a program image differ in. Code that is made for one of them has its numbers as constants.
 pub trait Form {
-    /// Bytes 6-7 of the header.
-    const NUMBER: u16;
+    const PACKED: bool;
     /// The most literals that a rule has.
     const MOST: usize;
 
@@ -16,7 +15,7 @@ pub struct Fixed;
 pub struct Packed;
 
 impl Form for Fixed {
-    const NUMBER: u16 = 0;
+    const PACKED: bool = false;
     const MOST: usize = 3;
 
     fn length(rules: usize, _: usize) -> usize {
@@ -25,7 +24,7 @@ impl Form for Fixed {
 }
 
 impl Form for Packed {
-    const NUMBER: u16 = 1;
+    const PACKED: bool = true;
     const MOST: usize = 8;
 
     fn length(rules: usize, literals: usize) -> usize {

@@ -119,7 +119,7 @@ fn try_translate<F: Form>(theory: &[u8], out: &mut [u8]) -> Outcome<usize> {
     header[0..2].copy_from_slice(&(theory.atoms as u16).to_le_bytes());
     header[2..4].copy_from_slice(&(size.all as u16).to_le_bytes());
     header[4..6].copy_from_slice(&(size.rules as u16).to_le_bytes());
-    header[6..8].copy_from_slice(&F::NUMBER.to_le_bytes());
+    header[6..8].copy_from_slice(&u16::from(F::PACKED).to_le_bytes());
     header[8..12].copy_from_slice(&(HEADER as u32).to_le_bytes());
     header[12..16].copy_from_slice(&length.to_le_bytes());
     flatten::write::<F>(&theory, &terms, body);
