@@ -392,9 +392,11 @@ fn otherwise(theory: &[u8], packed: bool, out: &mut [u8], other: fn(Vec<u8>) -> 
     }
 }
 
+type Translate = fn(&[u8], bool, &mut [u8]) -> Answer;
+
 #[test]
 fn other_programs_written() {
-    let translations: [fn(&[u8], bool, &mut [u8]) -> Answer; 5] = [
+    let translations: [Translate; 5] = [
         // The form is left out of the header; the total is that of the fixed form.
         |theory, packed, out| {
             otherwise(theory, packed, out, |mut program| {
