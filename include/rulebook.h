@@ -27,10 +27,10 @@
  *  15      a pair is not of two atoms below A, smaller first   first such pair's index
  *  21      program shorter than 16 bytes                       0
  *  22      A, B or K outside its limits (1,024, 3,072, 6,528)  0
- *  23      bytes 6-7 of the program not zero                   0
- *  24      rule offset or total length field differs           0
+ *  23      bytes 6-7 of the program neither 0 nor 1            0
+ *  24      rule offset or total length field wrong, see below  0
  *  25      length of the program differs from the total        length wanted
- *  26      a rule is malformed                                 first such rule
+ *  26      a rule is malformed, or bytes are left, see below   first such rule, or K
  *
  * A theory image has A atoms, N nodes, R roots and P pairs, at most 1,024, 1,024, 256 and
  * 128, and is 16 + 6N + 2R + 4P bytes long: its header, in which bytes 6-7 are P, the
@@ -42,10 +42,23 @@
  * its fields that is wrong: 0 the kind (over 6), 1 the zero byte, 2 left, 3 right.
  * A node is used if it is a root, the left of a node of kind 3, or the left or right of
  * one of kinds 4 to 6, whether that node is used itself or not.
+ *
+ * A program image has A atoms, B atoms and labels and K rules: A at most 1,024 and at most B,
+ * B at most 3,072, K at most 6,528. Its header has A, B, K and the form, two bytes each, and
+ * the offset 16 of the rules and the total length, four bytes each. The rules follow. A rule
+ * has the numbers of its heads, positives and negatives, a byte each, a zero byte, and then
+ * slots of two bytes: its atoms below B, in that order.
+ *
+ * In the fixed form, 0, a rule has three slots, those that it does not use zero, and so at
+ * most three literals; the image is 16 + 10K bytes long, which 24 tests of the total. In the
+ * packed form, 1, a rule has only the slots that it uses, eight at most; 24 tests that the
+ * total is at least 16, and 25 the length. There 26 is also for a rule that runs past the end
+ * of the image, and with the place K for bytes left after the last rule.
  */
 #ifndef RULEBOOK_H
 #define RULEBOOK_H
 
+#include <stdbool.h>
 #include <stddef.h>
 #include <stdint.h>
 
@@ -68,9 +81,10 @@ struct rulebook_answer rulebook_evaluate_theory(
     const uint8_t *theory, size_t theory_length,
     const uint8_t *reading, size_t reading_length);
 
-/* Writes the flat program of a theory, 16 + 10K bytes and at most 65,236. A theory's rows, 8. Result: K, the number of its rules, at most 6,522. */
+/* Writes the flat program of a theory: in the packed form if packed, at most 55,772 bytes, else in the fixed one, 16 + 10K bytes and at most 65,236. A theory's rows, 8. Result: K, the number of its rules, at most 6,522. */
 struct rulebook_answer rulebook_translate(
     const uint8_t *theory, size_t theory_length,
+    bool packed,
     uint8_t *out, size_t out_length);
 
 /* Writes the A bytes of a reading and then the value of each label, B bytes in all and at most 3,070, also for a reading that does not satisfy. A theory's rows, 9, 10, 8. Result: B. */

@@ -1,5 +1,6 @@
 //! The nine public calls as a table of functions, so that a comparison need not know whose they are.
 
+use crate::lists::get4;
 use std::fmt;
 
 /// What every public call gives back. The layout is the one that C sees.
@@ -20,12 +21,13 @@ impl fmt::Display for Answer {
     }
 }
 
-/// The name of a public call.
+/// A public call. Translation is here twice, once for each form of its program.
 #[derive(Clone, Copy, Debug, PartialEq, Eq)]
 pub enum Call {
     CheckTheory,
     EvaluateTheory,
     Translate,
+    TranslatePacked,
     Extend,
     TestTheory,
     ListSets,
@@ -35,10 +37,11 @@ pub enum Call {
 }
 
 impl Call {
-    pub const ALL: [Call; 9] = [
+    pub const ALL: [Call; 10] = [
         Call::CheckTheory,
         Call::EvaluateTheory,
         Call::Translate,
+        Call::TranslatePacked,
         Call::Extend,
         Call::TestTheory,
         Call::ListSets,
@@ -52,6 +55,7 @@ impl Call {
             Call::CheckTheory => "check_theory",
             Call::EvaluateTheory => "evaluate_theory",
             Call::Translate => "translate",
+            Call::TranslatePacked => "translate packed",
             Call::Extend => "extend",
             Call::TestTheory => "test_theory",
             Call::ListSets => "list_sets",
@@ -61,12 +65,20 @@ impl Call {
         }
     }
 
+    /// The name of its function, without what all of these begin with.
+    pub fn function(self) -> &'static str {
+        match self {
+            Call::TranslatePacked => Call::Translate.name(),
+            _ => self.name(),
+        }
+    }
+
     /// The rows that the call has, in the order in which they are tested.
     pub fn rows(self) -> &'static [u32] {
         match self {
             Call::CheckTheory => &[1, 2, 4, 5, 6, 7, 15, 13],
             Call::EvaluateTheory => &[1, 2, 4, 5, 6, 7, 15, 13, 9, 10],
-            Call::Translate => &[1, 2, 4, 5, 6, 7, 15, 13, 8],
+            Call::Translate | Call::TranslatePacked => &[1, 2, 4, 5, 6, 7, 15, 13, 8],
             Call::Extend => &[1, 2, 4, 5, 6, 7, 15, 13, 9, 10, 8],
             Call::TestTheory => &[1, 2, 4, 5, 6, 7, 15, 13, 9, 10, 11],
             Call::ListSets => &[1, 2, 4, 5, 6, 7, 15, 13, 11, 8],
@@ -96,13 +108,15 @@ impl Call {
 
     /// Whether the call is lent a buffer.
     pub fn writes(self) -> bool {
-        matches!(self, Call::Translate | Call::Extend | Call::ListSets)
+        matches!(self, Call::Translate | Call::TranslatePacked | Call::Extend | Call::ListSets)
     }
 
-    /// How many bytes an accepted call with this result has written.
-    pub fn written(self, result: usize) -> usize {
+    /// How many bytes an accepted call with this result has written to the start of `out`. A packed program has that
+    /// number in its header.
+    pub fn written(self, result: usize, out: &[u8]) -> usize {
         match self {
             Call::Translate => 16 + 10 * result,
+            Call::TranslatePacked => out.get(..16).map_or(0, |header| get4(header, 12)),
             Call::Extend => result,
             Call::ListSets => 2 * result,
             _ => 0,
@@ -116,7 +130,7 @@ pub struct Calls {
     pub name: &'static str,
     pub check_theory: fn(&[u8]) -> Answer,
     pub evaluate_theory: fn(&[u8], &[u8]) -> Answer,
-    pub translate: fn(&[u8], &mut [u8]) -> Answer,
+    pub translate: fn(&[u8], bool, &mut [u8]) -> Answer,
     pub extend: fn(&[u8], &[u8], &mut [u8]) -> Answer,
     pub test_theory: fn(&[u8], &[u8]) -> Answer,
     pub list_sets: fn(&[u8], &mut [u8]) -> Answer,
@@ -131,7 +145,8 @@ impl Calls {
         match call {
             Call::CheckTheory => (self.check_theory)(image),
             Call::EvaluateTheory => (self.evaluate_theory)(image, reading),
-            Call::Translate => (self.translate)(image, out),
+            Call::Translate => (self.translate)(image, false, out),
+            Call::TranslatePacked => (self.translate)(image, true, out),
             Call::Extend => (self.extend)(image, reading, out),
             Call::TestTheory => (self.test_theory)(image, reading),
             Call::ListSets => (self.list_sets)(image, out),

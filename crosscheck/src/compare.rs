@@ -30,7 +30,7 @@ const SHOWN: usize = 256;
 /// time; afterwards the answers, the buffers and the guards around them are compared byte by byte.
 pub struct Comparer<'c> {
     sides: [&'c Calls; 2],
-    counts: [u64; 9],
+    counts: [u64; Call::ALL.len()],
     numbers: [u64; NUMBERS],
     pattern: Vec<u8>,
     shift: usize,
@@ -45,7 +45,7 @@ impl<'c> Comparer<'c> {
         let pattern = (0..whole + SHIFTS).map(|_| random.bits() as u8).collect();
         Comparer {
             sides: [first, second],
-            counts: [0; 9],
+            counts: [0; Call::ALL.len()],
             numbers: [0; NUMBERS],
             pattern,
             shift: 0,
@@ -94,7 +94,7 @@ impl<'c> Comparer<'c> {
         if let Some(fault) = fault(call, first) {
             return Err(report(fault.to_string()));
         }
-        let (refused, written) = (first.number != 0, call.written(first.result));
+        let (refused, written) = (first.number != 0, call.written(first.result, &ours[GUARD..GUARD + room]));
         let kept = if refused || written > room { GUARD } else { GUARD + written };
         if ours[..GUARD] != pattern[..GUARD] || ours[kept..] != pattern[kept..] {
             return Err(report("bytes that must stay were changed".to_string()));

@@ -4,13 +4,18 @@
 //! all others.
 
 use crate::generate::growth::{Growth, Style, NO_LIMIT};
-use crate::lists::{get2, Book, Pair};
+use crate::lists::{get2, get4, Book, Pair};
 use crate::node::Node;
 use crate::random::Random;
 
 /// Writes a 2-byte number at `at`.
 pub fn set2(image: &mut [u8], at: usize, number: usize) {
     image[at..at + 2].copy_from_slice(&(number as u16).to_le_bytes());
+}
+
+/// Writes a 4-byte number at `at`.
+pub fn set4(image: &mut [u8], at: usize, number: usize) {
+    image[at..at + 4].copy_from_slice(&(number as u32).to_le_bytes());
 }
 
 /// A 2-byte number that is at least `low`, often only just.
@@ -28,23 +33,16 @@ fn byte(random: &mut Random, low: usize) -> u8 {
     random.within(low, high) as u8
 }
 
-/// Bytes 6 and 7, row 23.
-fn reserved(random: &mut Random, image: &mut [u8]) {
-    let at = random.within(6, 7);
-    image[at] = random.within(1, 255) as u8;
-}
-
 /// A 4-byte header field set to something else, rows 4 and 24.
-fn field(random: &mut Random, image: &mut [u8]) {
-    let at = random.pick(&[8, 12]);
-    let old = u32::from_le_bytes(image[at..at + 4].try_into().expect("four bytes"));
+fn field(random: &mut Random, image: &mut [u8], at: usize) {
+    let old = get4(image, at) as u32;
     let new = match random.below(4) {
         0 => old.wrapping_add(1),
         1 => old.wrapping_sub(1),
         2 => old ^ 1 << random.below(32),
         _ => old.wrapping_add(random.within(1, 1 << 20) as u32),
     };
-    image[at..at + 4].copy_from_slice(&new.to_le_bytes());
+    set4(image, at, new as usize);
 }
 
 /// An image too long or too short, though not shorter than its header, rows 5 and 25.
@@ -97,7 +95,10 @@ pub fn theory(random: &mut Random, image: &mut Vec<u8>, row: u32) -> usize {
             let (at, low) = random.pick(&[(0, 1025), (2, 1025), (4, 257), (6, 129)]);
             set2(image, at, at_least(random, low));
         }
-        4 => field(random, image),
+        4 => {
+            let at = random.pick(&[8, 12]);
+            field(random, image, at);
+        }
         5 => return length(random, image),
         6 => {
             let (own, kind) = (random.below(nodes), random.below(7));
@@ -166,9 +167,26 @@ pub fn pair(image: &mut [u8], own: usize, (first, second): Pair) {
 /// The rows of a program image in the order in which damage must be done.
 pub const PROGRAM_ORDER: [u32; 6] = [26, 24, 23, 22, 25, 21];
 
-/// Breaks one of rows 21 to 26. The image is valid up to other damage, with at least one rule.
-pub fn program(random: &mut Random, image: &mut Vec<u8>, row: u32) -> usize {
-    let (atoms, rules) = (get2(image, 0), get2(image, 4));
+/// Whether an image is in the packed form.
+fn packed(image: &[u8]) -> bool {
+    get2(image, 6) == 1
+}
+
+/// Where each rule of a valid program image starts.
+pub fn starts(image: &[u8]) -> Vec<usize> {
+    let next = |&at: &usize| Some(at + if packed(image) { 4 + 2 * literals(image, at) } else { 10 });
+    std::iter::successors(Some(16), next).take(get2(image, 4)).collect()
+}
+
+/// The sum of the three counts of a rule.
+fn literals(image: &[u8], at: usize) -> usize {
+    image[at..at + 3].iter().map(|&count| usize::from(count)).sum()
+}
+
+/// Breaks one of rows 21 to 26. The image is valid up to other damage, with at least one rule, and its rules started at
+/// `starts` before there was any.
+pub fn program(random: &mut Random, image: &mut Vec<u8>, starts: &[usize], row: u32) -> usize {
+    let atoms = get2(image, 0);
     match row {
         21 => stump(random, image),
         22 => match random.below(4) {
@@ -177,12 +195,27 @@ pub fn program(random: &mut Random, image: &mut Vec<u8>, row: u32) -> usize {
             2 if atoms > 0 => set2(image, 2, random.below(atoms)),
             _ => set2(image, 4, at_least(random, 6529)),
         },
-        23 => reserved(random, image),
-        24 => field(random, image),
+        23 => {
+            let form = random.pick(&[2, 3, 128, 255, 256, 257, 258, 32768, 65535]);
+            set2(image, 6, form);
+        }
+        24 => match (packed(image), random.below(2)) {
+            (false, 1) => field(random, image, 12),
+            (true, 1) => set4(image, 12, random.below(16)),
+            _ => field(random, image, 8),
+        },
+        // The total of a packed image can be anything that is not too small.
+        25 if packed(image) && get4(image, 12) == image.len() && random.chance(50) => {
+            let length = image.len();
+            let total =
+                random.pick(&[16, length - 1, length + 1, length + 2, length + 10, length + 65536, 0xFFFF_FFFF]);
+            set4(image, 12, total);
+            return total;
+        }
         25 => return length(random, image),
         26 => {
-            let own = random.below(rules);
-            rule(random, image, own);
+            let own = random.below(starts.len());
+            rule(random, image, starts[own]);
             return own;
         }
         _ => panic!("no row {row} of a program"),
@@ -190,40 +223,66 @@ pub fn program(random: &mut Random, image: &mut Vec<u8>, row: u32) -> usize {
     0
 }
 
-/// Breaks the rule `own` in one of the ways in which a rule can be wrong.
-fn rule(random: &mut Random, image: &mut [u8], own: usize) {
-    let all = get2(image, 2);
-    let at = 16 + 10 * own;
-    let used = usize::from(image[at]) + usize::from(image[at + 1]) + usize::from(image[at + 2]);
+/// Counts whose sum is over 3, and among them sums that a byte cannot hold.
+const OVER_THREE: [[u8; 3]; 11] = [
+    [4, 0, 0],
+    [0, 4, 0],
+    [0, 0, 4],
+    [2, 1, 1],
+    [1, 2, 1],
+    [1, 1, 2],
+    [255, 1, 0],
+    [128, 128, 0],
+    [0, 254, 2],
+    [255, 255, 255],
+    [85, 86, 85],
+];
+
+/// The same for 8.
+pub const OVER_EIGHT: [[u8; 3]; 15] = [
+    [9, 0, 0],
+    [0, 9, 0],
+    [0, 0, 9],
+    [3, 3, 3],
+    [8, 1, 0],
+    [0, 8, 1],
+    [1, 0, 8],
+    [255, 1, 0],
+    [128, 128, 0],
+    [0, 254, 2],
+    [200, 100, 0],
+    [255, 255, 255],
+    [85, 86, 85],
+    [86, 86, 86],
+    [1, 255, 3],
+];
+
+/// Breaks the rule that starts at `at` in one of the ways in which a rule can be wrong.
+fn rule(random: &mut Random, image: &mut [u8], at: usize) {
+    let (all, packed, used) = (get2(image, 2), packed(image), literals(image, at));
+    // Not if it was broken before so that it has other slots.
+    let (used_up, whole) = match packed {
+        true => (at + 4 + 2 * used == image.len(), used <= 8 && at + 4 + 2 * used <= image.len()),
+        false => (false, used <= 3),
+    };
     match random.below(4) {
-        // Sums over 3, and among them sums that a byte cannot hold.
         0 => {
-            let counts = random.pick(&[
-                [4, 0, 0],
-                [0, 4, 0],
-                [0, 0, 4],
-                [2, 1, 1],
-                [1, 2, 1],
-                [1, 1, 2],
-                [255, 1, 0],
-                [128, 128, 0],
-                [0, 254, 2],
-                [255, 255, 255],
-                [85, 86, 85],
-            ]);
+            let counts = if packed { random.pick(&OVER_EIGHT) } else { random.pick(&OVER_THREE) };
             image[at..at + 3].copy_from_slice(&counts);
-            if random.chance(50) {
+            if !packed && random.chance(50) {
                 image[at + 4..at + 10].fill(0);
             }
         }
-        1 if used > 0 && used <= 3 => {
+        1 if whole && used > 0 => {
             let slot = random.below(used);
             set2(image, at + 4 + 2 * slot, at_least(random, all));
         }
-        2 if used < 3 => {
+        2 if !packed && used < 3 => {
             let slot = random.within(used, 2);
             set2(image, at + 4 + 2 * slot, random.within(1, 65535));
         }
+        // The last rule has a literal more than there are bytes for.
+        2 if used_up && used < 8 => image[at + random.below(3)] += 1,
         _ => image[at + 3] = random.within(1, 255) as u8,
     }
 }

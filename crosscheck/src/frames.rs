@@ -38,7 +38,7 @@ impl<'t> Bounds<'t> {
     pub fn read(text: &'t str) -> Result<Self, String> {
         let listing = Listing::read(text)?;
         let mut calls: Vec<&str> = listing.functions.keys().copied().filter(|name| name.starts_with(PUBLIC)).collect();
-        calls.sort_by_key(|name| Call::ALL.iter().position(|call| call.name() == &name[PUBLIC.len()..]));
+        calls.sort_by_key(|name| Call::ALL.iter().position(|call| call.function() == &name[PUBLIC.len()..]));
         if calls.is_empty() {
             return Err(format!("no function of the archive has a name that begins with {PUBLIC}"));
         }
@@ -49,7 +49,7 @@ impl<'t> Bounds<'t> {
 
     /// Whether a call is among them.
     pub fn cover(&self, call: Call) -> bool {
-        self.paths.iter().any(|path| path[0].0.strip_prefix(PUBLIC) == Some(call.name()))
+        self.paths.iter().any(|path| path[0].0.strip_prefix(PUBLIC) == Some(call.function()))
     }
 }
 

@@ -119,7 +119,8 @@ pub fn free(mut book: Book) -> Book {
     book
 }
 
-/// The book of these sizes, with at least one node and one root, that has the longest program: 6 (N - 1) + R + P rules.
+/// The book of these sizes, with at least one node and one root, that has the longest program: 6 (N - 1) + R + P rules,
+/// and packed 16 + 52 (N - 1) + 6 R + 8 P bytes.
 /// Of all kinds an implication has the most, six, if no operand is a constant; the first node can only be a leaf, which
 /// has none; a root or a pair has one at most. That every node must be used makes no program shorter: a chain in which
 /// each implication is an operand of the next needs a single root.
@@ -130,16 +131,17 @@ pub fn longest(random: &mut Random, atoms: usize, nodes: usize, roots: usize, pa
     grown(random, &style, first, nodes, roots, pairs)
 }
 
-/// A random program of exactly these sizes.
-pub fn program(random: &mut Random, atoms: usize, all: usize, rules: usize) -> Program {
-    let rules = (0..rules).map(|_| rule(random, all)).collect();
+/// A random program of exactly these sizes, whose rules have up to `most` literals.
+pub fn program(random: &mut Random, atoms: usize, all: usize, rules: usize, most: usize) -> Program {
+    let rules = (0..rules).map(|_| rule(random, all, most)).collect();
     Program { atoms, all, rules }
 }
 
-fn rule(random: &mut Random, all: usize) -> Rule {
+/// A random rule. The one without literals, which nothing satisfies, is rare.
+fn rule(random: &mut Random, all: usize, most: usize) -> Rule {
     let mut rule = Rule::default();
-    if all > 0 {
-        for _ in 0..random.below(4) {
+    if all > 0 && !random.chance(4) {
+        for _ in 0..random.within(1, most) {
             let atom = random.below(all);
             match random.below(3) {
                 0 => rule.heads.push(atom),
@@ -154,7 +156,7 @@ fn rule(random: &mut Random, all: usize) -> Rule {
 /// A program whose one answer set is `truths` atoms: each is a fact, and every other rule asks for an atom outside.
 pub fn fact_program(random: &mut Random, all: usize, rules: usize, truths: usize) -> (Program, Vec<u8>) {
     let set = set(random, all, truths);
-    let mut program = program(random, 0, all, rules.max(truths));
+    let mut program = program(random, 0, all, rules.max(truths), 3);
     let outside: Vec<usize> = (0..all).filter(|&atom| set[atom] == 0).collect();
     for rule in &mut program.rules {
         rule.heads.truncate(2);
@@ -339,9 +341,15 @@ mod tests {
         let random = &mut Random::new(9);
         // The rules of a node alone, with operands that are atoms: none for the first node, six at most for others.
         let [p, q] = [Node::Atom(0), Node::Atom(1)];
-        let counts = [Node::Not(0), Node::And(0, 1), Node::Or(0, 1), Node::Implies(0, 1)]
-            .map(|node| Book::new(2, vec![p, q, node], vec![]).flat().rules.len());
-        assert_eq!(counts, [2, 3, 3, 6]);
+        let inner = [Node::Not(0), Node::And(0, 1), Node::Or(0, 1), Node::Implies(0, 1)];
+        let flat = |left: Node, right: Node, node: Node| Book::new(2, vec![left, right, node], vec![]).flat();
+        assert_eq!(inner.map(|node| flat(p, q, node).rules.len()), [2, 3, 3, 6]);
+        // Packed, too, an implication has the most bytes, and no constant makes it more.
+        let bytes = |left: Node, right: Node, node: Node| flat(left, right, node).packed().len() - 16;
+        assert_eq!(inner.map(|node| bytes(p, q, node)), [16, 26, 26, 52]);
+        for (left, right) in [Node::False, Node::True].into_iter().flat_map(|c| [(c, q), (p, c), (c, c)]) {
+            assert!(inner.iter().all(|&node| bytes(left, right, node) <= bytes(p, q, node)));
+        }
         assert_eq!(
             [Node::False, Node::True, p].map(|leaf| Book::new(2, vec![leaf], vec![]).flat().rules.len()),
             [0; 3]
@@ -352,6 +360,7 @@ mod tests {
             let longest = longest(random, 1024, nodes, roots, pairs);
             assert_eq!((sizes(&longest), longest.flat().rules.len()), ((nodes, roots, pairs), rules));
             assert_eq!(rules, 6 * (nodes - 1) + roots + pairs);
+            assert_eq!(longest.flat().packed().len(), 16 + 52 * (nodes - 1) + 6 * roots + 8 * pairs);
             assert!(book(random, 1024, nodes, roots, pairs).flat().rules.len() <= rules);
         }
     }

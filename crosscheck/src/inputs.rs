@@ -9,7 +9,8 @@ use crate::{formula, generate};
 
 /// A call with its arguments.
 pub struct Input {
-    pub name: &'static str,
+    /// The last word is the form, where that is the packed one.
+    pub name: String,
     pub call: Call,
     image: Vec<u8>,
     reading: Vec<u8>,
@@ -18,8 +19,18 @@ pub struct Input {
 }
 
 impl Input {
-    fn new(name: &'static str, call: Call, image: Vec<u8>, reading: Vec<u8>, room: usize) -> Input {
-        Input { name, call, image, reading, room }
+    fn new(name: &str, call: Call, image: Vec<u8>, reading: Vec<u8>, room: usize) -> Input {
+        Input { name: name.to_string(), call, image, reading, room }
+    }
+
+    /// The same in the packed form, of a translation or of a call on a program. The room of the fixed form is enough.
+    fn packed(&self) -> Option<Input> {
+        let (call, image) = match self.call {
+            Call::Translate => (Call::TranslatePacked, self.image.clone()),
+            call if call.on_program() => (call, Program::read(&self.image).packed()),
+            _ => return None,
+        };
+        Some(Input::new(&format!("{}, packed", self.name), call, image, self.reading.clone(), self.room))
     }
 
     pub fn run(&self, side: &Calls, out: &mut [u8]) -> Answer {
@@ -33,7 +44,8 @@ const LARGE: &str = "1,024 atoms and nodes, 256 roots";
 const PAIRED: &str = "the same and 128 pairs";
 const LARGE_FLAT: &str = "over 4,000 rules";
 
-/// Each call on a small input and on a large one.
+/// Each call on a small input and on a large one, in the fixed form and then in the packed one, and rules of eight
+/// literals.
 pub fn all() -> Vec<Input> {
     let small = formula::book("p q r", "(r -> q) -> p");
     let (large, reading) = mixed(1024, 256, 0);
@@ -56,12 +68,15 @@ pub fn all() -> Vec<Input> {
         flat_candidate("1,016 rules, 16 atoms true", generate::set(&mut Random::new(17), 200, 16), 1000),
         flat_candidate("3,072 atoms, 116 rules, 16 true", scattered_set(3072), 100),
     ]);
+    let packed: Vec<Input> = inputs.iter().filter_map(Input::packed).collect();
+    inputs.extend(packed);
+    inputs.extend(of_eight_literals());
     inputs.sort_by_key(|input| input.call as usize);
     inputs
 }
 
 /// The calls that look at a book or its program once.
-fn on_book(name: &'static str, flat_name: &'static str, book: &Book, reading: Vec<u8>) -> Vec<Input> {
+fn on_book(name: &str, flat_name: &str, book: &Book, reading: Vec<u8>) -> Vec<Input> {
     let (image, program) = (book.image(), book.flat().image());
     let labelled = extended(book, &reading);
     vec![
@@ -78,7 +93,7 @@ fn extended(book: &Book, reading: &[u8]) -> Vec<u8> {
     [reading, &book.labels(reading)].concat()
 }
 
-fn translation(name: &'static str, book: &Book) -> Input {
+fn translation(name: &str, book: &Book) -> Input {
     let room = 16 + 10 * book.flat().rules.len();
     Input::new(name, Call::Translate, book.image(), vec![], room)
 }
@@ -107,14 +122,14 @@ fn mixed(nodes: usize, roots: usize, pairs: usize) -> (Book, Vec<u8>) {
 }
 
 /// A candidate that is an answer set, so that no subset of it ends the test early. Only four atoms more are not true.
-pub fn candidate(name: &'static str, nodes: usize, truths: usize) -> Input {
+pub fn candidate(name: &str, nodes: usize, truths: usize) -> Input {
     let random = &mut Random::new(11);
     let set = generate::set(random, truths + 4, truths);
     facts(name, random, set, nodes)
 }
 
 /// The same where sixteen atoms are true among the most that a theory has.
-fn scattered(name: &'static str, nodes: usize) -> Input {
+fn scattered(name: &str, nodes: usize) -> Input {
     facts(name, &mut Random::new(19), scattered_set(1024), nodes)
 }
 
@@ -124,7 +139,7 @@ fn scattered_set(atoms: usize) -> Vec<u8> {
 }
 
 /// The test of a candidate whose atoms are all facts.
-fn facts(name: &'static str, random: &mut Random, set: Vec<u8>, nodes: usize) -> Input {
+fn facts(name: &str, random: &mut Random, set: Vec<u8>, nodes: usize) -> Input {
     let mut book = generate::facts_of(random, &set, nodes, 0);
     book.roots.reverse();
     Input::new(name, Call::TestTheory, book.image(), set, 0)
@@ -139,12 +154,38 @@ fn listing() -> Input {
 }
 
 /// The true atoms as facts after so many rules that always hold, so that every subset is tried on all of these.
-fn flat_candidate(name: &'static str, set: Vec<u8>, always: usize) -> Input {
-    let outside = (0..set.len()).find(|&atom| set[atom] == 0).expect("an atom outside");
-    let mut rules = vec![Rule::new(&[0], &[outside], &[1]); always];
-    rules.extend(generate::true_atoms(&set).map(|atom| Rule::new(&[atom], &[], &[])));
-    let program = Program { atoms: 0, all: set.len(), rules };
+fn flat_candidate(name: &str, set: Vec<u8>, always: usize) -> Input {
+    let rule = Rule::new(&[0], &[outside(&set)], &[1]);
+    let program = facts_after(vec![rule; always], &set);
     Input::new(name, Call::TestProgram, program.image(), set, 0)
+}
+
+/// An atom that is not true.
+fn outside(set: &[u8]) -> usize {
+    set.iter().position(|&value| value == 0).expect("an atom outside")
+}
+
+fn facts_after(mut rules: Vec<Rule>, set: &[u8]) -> Program {
+    rules.extend(generate::true_atoms(set).map(|atom| Rule::new(&[atom], &[], &[])));
+    Program { atoms: 0, all: set.len(), rules }
+}
+
+/// Packed programs of rules of eight literals. One positive is false in all of them, so that they hold.
+fn of_eight_literals() -> [Input; 3] {
+    let set = scattered_set(3072);
+    let mut random = Random::new(23);
+    let mut atoms = |count: usize| (0..count).map(|_| random.below(3072)).collect::<Vec<usize>>();
+    let mut rule =
+        || Rule { heads: atoms(2), positives: [vec![outside(&set)], atoms(2)].concat(), negatives: atoms(3) };
+    let many: Vec<Rule> = (0..4000).map(|_| rule()).collect();
+    let few = facts_after(many[..100].to_vec(), &set).packed();
+    let many = Program { atoms: 0, all: 3072, rules: many }.packed();
+    let name = "4,000 rules of eight literals, packed";
+    [
+        Input::new(name, Call::CheckProgram, many.clone(), vec![], 0),
+        Input::new(name, Call::EvaluateProgram, many, set.clone(), 0),
+        Input::new("116 rules, 100 of eight, 16 true, packed", Call::TestProgram, few, set, 0),
+    ]
 }
 
 #[cfg(test)]
@@ -170,6 +211,40 @@ mod tests {
             assert_eq!(reference::check_theory(&input.image).number, 0, "{}", input.name);
         }
         assert_eq!(get2(&listing().image, 2), 64);
+    }
+
+    #[test]
+    fn the_same_in_both_forms() {
+        let inputs = all();
+        let packed: Vec<&Input> = inputs.iter().filter(|input| input.name.ends_with(", packed")).collect();
+        let fixed = inputs.iter().filter(|input| input.packed().is_some() && !input.name.ends_with(", packed"));
+        assert_eq!((packed.len(), fixed.clone().count()), (14, 11));
+        for one in fixed {
+            let name = format!("{}, packed", one.name);
+            let call = |other: &Input| other.call.function() == one.call.function() && other.name == name;
+            let other = packed.iter().find(|other| call(other)).expect("the packed one");
+            assert_eq!(other.reading, one.reading);
+            if !one.call.on_program() {
+                let [mut fixed, mut packed] = [vec![0; one.room], vec![0; one.room]];
+                assert_eq!(other.run(&reference::CALLS, &mut packed), one.run(&reference::CALLS, &mut fixed));
+                assert_eq!([get2(&fixed, 6), get2(&packed, 6)], [0, 1]);
+            } else {
+                assert_eq!(Program::read(&other.image), Program::read(&one.image));
+            }
+        }
+    }
+
+    #[test]
+    fn rules_of_eight_literals() {
+        let [check, evaluation, candidate] = of_eight_literals();
+        assert_eq!(check.image, evaluation.image);
+        let eight =
+            |input: &Input| Program::read(&input.image).rules.iter().filter(|rule| rule.literals() == 8).count();
+        assert_eq!([eight(&check), eight(&candidate), get2(&candidate.image, 4)], [4000, 100, 116]);
+        assert_eq!(generate::true_atoms(&candidate.reading).count(), 16);
+        for input in [check, evaluation, candidate] {
+            assert_eq!(input.run(&reference::CALLS, &mut []).result, 1);
+        }
     }
 
     /// Those that are not too long are run, too: their candidates are answer sets.

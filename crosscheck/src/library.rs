@@ -26,7 +26,13 @@ extern "C" {
         reading: *const u8,
         reading_length: usize,
     ) -> Answer;
-    fn rulebook_translate(theory: *const u8, theory_length: usize, out: *mut u8, out_length: usize) -> Answer;
+    fn rulebook_translate(
+        theory: *const u8,
+        theory_length: usize,
+        packed: bool,
+        out: *mut u8,
+        out_length: usize,
+    ) -> Answer;
     fn rulebook_extend(
         theory: *const u8,
         theory_length: usize,
@@ -69,8 +75,8 @@ pub fn evaluate_theory(theory: &[u8], reading: &[u8]) -> Answer {
     unsafe { rulebook_evaluate_theory(theory.as_ptr(), theory.len(), reading.as_ptr(), reading.len()) }
 }
 
-pub fn translate(theory: &[u8], out: &mut [u8]) -> Answer {
-    unsafe { rulebook_translate(theory.as_ptr(), theory.len(), out.as_mut_ptr(), out.len()) }
+pub fn translate(theory: &[u8], packed: bool, out: &mut [u8]) -> Answer {
+    unsafe { rulebook_translate(theory.as_ptr(), theory.len(), packed, out.as_mut_ptr(), out.len()) }
 }
 
 pub fn extend(theory: &[u8], reading: &[u8], out: &mut [u8]) -> Answer {

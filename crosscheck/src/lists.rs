@@ -52,6 +52,11 @@ pub fn get2(bytes: &[u8], at: usize) -> usize {
     bytes[at] as usize + 256 * bytes[at + 1] as usize
 }
 
+/// The 4-byte number at `at`.
+pub fn get4(bytes: &[u8], at: usize) -> usize {
+    get2(bytes, at) + 65536 * get2(bytes, at + 2)
+}
+
 impl Book {
     /// A book without pairs.
     pub fn new(atoms: usize, nodes: Vec<Node>, roots: Vec<usize>) -> Book {
@@ -269,40 +274,89 @@ impl Rule {
     pub fn new(heads: &[usize], positives: &[usize], negatives: &[usize]) -> Rule {
         Rule { heads: heads.to_vec(), positives: positives.to_vec(), negatives: negatives.to_vec() }
     }
+
+    pub fn literals(&self) -> usize {
+        self.heads.len() + self.positives.len() + self.negatives.len()
+    }
+}
+
+/// The rule `own` of a fixed image.
+fn fixed_rule(image: &[u8], own: usize) -> Rule {
+    let at = 16 + 10 * own;
+    let slots: Vec<usize> = (0..3).map(|slot| get2(image, at + 4 + 2 * slot)).collect();
+    let heads = image[at] as usize;
+    let positives = heads + image[at + 1] as usize;
+    let negatives = positives + image[at + 2] as usize;
+    Rule::new(&slots[..heads], &slots[heads..positives], &slots[positives..negatives])
+}
+
+/// The rules of an image that is packed, whatever the rest of its header says; else which rule is wrong, or how many
+/// there are where bytes are left after them. Row 26 is refused with that place.
+pub fn packed_rules(image: &[u8]) -> Result<Vec<Rule>, usize> {
+    let (all, count) = (get2(image, 2), get2(image, 4));
+    let mut bytes = image[16..].iter().copied();
+    let rules = (0..count).map(|own| packed_rule(&mut bytes, all).ok_or(own)).collect::<Result<_, _>>()?;
+    bytes.next().map_or(Ok(rules), |_| Err(count))
+}
+
+/// Takes a rule off the front, byte by byte; nothing where a byte is wrong or missing.
+fn packed_rule(bytes: &mut impl Iterator<Item = u8>, all: usize) -> Option<Rule> {
+    let mut next = || bytes.next().map(usize::from);
+    let (heads, positives, negatives, zero) = (next()?, next()?, next()?, next()?);
+    if zero != 0 || heads + positives + negatives > 8 {
+        return None;
+    }
+    let mut atom = || Some(next()? + 256 * next()?).filter(|&atom| atom < all);
+    let mut atoms = |count: usize| (0..count).map(|_| atom()).collect::<Option<Vec<usize>>>();
+    Some(Rule { heads: atoms(heads)?, positives: atoms(positives)?, negatives: atoms(negatives)? })
 }
 
 impl Program {
-    /// The image of the program; counts are not compared with the limits.
+    /// The image of the program in the fixed form. Nothing is compared with the limits, and from its fourth literal on a
+    /// rule has no slots.
     pub fn image(&self) -> Vec<u8> {
+        self.written(0, |slots| slots.resize(3, 0))
+    }
+
+    /// Its image in the packed form; nothing is compared with the limits.
+    pub fn packed(&self) -> Vec<u8> {
+        self.written(1, |_| ())
+    }
+
+    /// Its images in the forms that have room for all its rules, the packed one last.
+    pub fn images(&self) -> Vec<Vec<u8>> {
+        let fixed = self.rules.iter().all(|rule| rule.literals() <= 3).then(|| self.image());
+        fixed.into_iter().chain([self.packed()]).collect()
+    }
+
+    /// The image with this number for its form, in which the slots of each rule become as many as the form wants.
+    fn written(&self, form: usize, adapt: impl Fn(&mut Vec<usize>)) -> Vec<u8> {
+        let mut rules = Vec::new();
+        for rule in &self.rules {
+            let parts = [&rule.heads, &rule.positives, &rule.negatives];
+            parts.iter().for_each(|part| rules.push(part.len() as u8));
+            rules.push(0);
+            let mut slots: Vec<usize> = parts.into_iter().flatten().copied().collect();
+            adapt(&mut slots);
+            slots.into_iter().for_each(|slot| put2(&mut rules, slot));
+        }
         let mut bytes = Vec::new();
         put2(&mut bytes, self.atoms);
         put2(&mut bytes, self.all);
         put2(&mut bytes, self.rules.len());
-        put2(&mut bytes, 0);
+        put2(&mut bytes, form);
         put4(&mut bytes, 16);
-        put4(&mut bytes, 16 + 10 * self.rules.len());
-        for rule in &self.rules {
-            let parts = [&rule.heads, &rule.positives, &rule.negatives];
-            parts.iter().for_each(|part| bytes.push(part.len() as u8));
-            bytes.push(0);
-            let mut slots: Vec<usize> = parts.into_iter().flatten().copied().collect();
-            slots.resize(3, 0);
-            slots.into_iter().for_each(|slot| put2(&mut bytes, slot));
-        }
+        put4(&mut bytes, 16 + rules.len());
+        bytes.extend(rules);
         bytes
     }
 
-    /// Reads an image that a check has accepted.
+    /// Reads an image of either form that a check has accepted.
     pub fn read(image: &[u8]) -> Program {
-        let rule = |own: usize| {
-            let at = 16 + 10 * own;
-            let slots: Vec<usize> = (0..3).map(|slot| get2(image, at + 4 + 2 * slot)).collect();
-            let heads = image[at] as usize;
-            let positives = heads + image[at + 1] as usize;
-            let negatives = positives + image[at + 2] as usize;
-            Rule::new(&slots[..heads], &slots[heads..positives], &slots[positives..negatives])
+        let rules = match get2(image, 6) {
+            0 => (0..get2(image, 4)).map(|own| fixed_rule(image, own)).collect(),
+            _ => packed_rules(image).expect("an accepted image"),
         };
-        let rules = (0..get2(image, 4)).map(rule).collect();
         Program { atoms: get2(image, 0), all: get2(image, 2), rules }
     }
 
@@ -353,7 +407,66 @@ pub fn answer_sets(atoms: usize, satisfied: impl Fn(&[bool], &[bool]) -> bool) -
 #[cfg(test)]
 mod tests {
     use super::*;
-    use crate::formula;
+    use crate::random::Random;
+    use crate::{formula, generate};
+
+    /// `0 | 2 <-`, the empty rule, and a rule of eight literals.
+    fn program() -> Program {
+        let rules = vec![Rule::new(&[0, 2], &[], &[]), Rule::default(), Rule::new(&[1], &[0, 2, 300], &[0, 1, 2, 1])];
+        Program { atoms: 2, all: 301, rules }
+    }
+
+    #[test]
+    fn bytes_of_a_packed_program() {
+        let header = [2, 0, 45, 1, 3, 0, 1, 0, 16, 0, 0, 0, 48, 0, 0, 0];
+        let rules: [&[u8]; 3] =
+            [&[2, 0, 0, 0, 0, 0, 2, 0], &[0, 0, 0, 0], &[1, 3, 4, 0, 1, 0, 0, 0, 2, 0, 44, 1, 0, 0, 1, 0, 2, 0, 1, 0]];
+        let image = program().packed();
+        assert_eq!((&image[..16], &image[16..]), (&header[..], &rules.concat()[..]));
+        assert_eq!(Program::read(&image), program());
+        // The last rule has no fixed image.
+        assert_eq!(program().images(), [image]);
+        let small = Program { rules: program().rules[..2].to_vec(), ..program() };
+        assert_eq!(small.images(), [small.image(), small.packed()]);
+    }
+
+    #[test]
+    fn written_and_read_back() {
+        let random = &mut Random::new(2);
+        for turn in 0..300 {
+            let most = if turn % 2 == 0 { 3 } else { 8 };
+            let program = generate::program(random, 2, 5, turn % 7, most);
+            let images = program.images();
+            assert!(images.len() == 2 || most == 8);
+            for image in images {
+                assert_eq!(get4(&image, 12), image.len());
+                assert_eq!(Program::read(&image), program);
+            }
+        }
+        for _ in 0..50 {
+            let flat = generate::book(random, 3, 12, 3, 2).flat();
+            assert_eq!(Program::read(&flat.packed()), Program::read(&flat.image()));
+        }
+    }
+
+    #[test]
+    fn packed_rules_that_are_wrong() {
+        let good = program().packed();
+        let with = |at: usize, byte: u8| {
+            let mut image = good.clone();
+            image[at] = byte;
+            packed_rules(&image)
+        };
+        // The rules start at bytes 16, 24 and 28.
+        assert_eq!(packed_rules(&good), Ok(program().rules));
+        assert_eq!([with(4, 2), with(4, 4), with(4, 0)], [Err(2), Err(3), Err(0)]);
+        assert_eq!([with(19, 1), with(27, 9), with(31, 1)], [Err(0), Err(1), Err(2)]);
+        // An atom that is 301, and nine literals.
+        assert_eq!([with(38, 45), with(28, 2)], [Err(2), Err(2)]);
+        assert_eq!(packed_rules(&good[..47]), Err(2));
+        assert_eq!(packed_rules(&good[..27]), Err(1));
+        assert_eq!(packed_rules(&[&good[..], &[0]].concat()), Err(3));
+    }
 
     #[test]
     fn nodes_that_nothing_uses() {

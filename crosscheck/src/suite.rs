@@ -7,6 +7,7 @@ mod books;
 mod candidates;
 mod examples;
 mod labels;
+mod packed;
 mod pairs;
 mod programs;
 mod refusals;
@@ -34,9 +35,13 @@ pub struct Effort {
     pub labelled_books: usize,
     /// Small books with pairs, all of whose readings and sets are tried.
     pub paired_books: usize,
+    /// Programs for each way to split up to eight literals into heads, positives and negatives.
+    pub split_programs: usize,
+    /// Packed images whose rules are random bytes.
+    pub random_rules: usize,
     /// Of the candidates of which many atoms are true, one in so many.
     pub many_truths: usize,
-    /// Books with pairs for the solver, and as many without.
+    /// Books with pairs for the solver, and as many without, and as many packed programs.
     pub solver_books: usize,
 }
 
@@ -51,6 +56,8 @@ impl Effort {
         large_programs: 500,
         labelled_books: 2_000,
         paired_books: 2_000,
+        split_programs: 6,
+        random_rules: 60_000,
         many_truths: 11,
         solver_books: 400,
     };
@@ -64,6 +71,8 @@ impl Effort {
         large_programs: 10,
         labelled_books: 8,
         paired_books: 20,
+        split_programs: 1,
+        random_rules: 300,
         many_truths: 211,
         solver_books: 10,
     };
@@ -72,10 +81,11 @@ impl Effort {
 type Part = fn(&mut Suite, &Effort) -> Checked<()>;
 
 /// The parts by name. The solver is not among them, since it is not everywhere.
-pub const PARTS: [(&str, Part); 13] = [
+pub const PARTS: [(&str, Part); 15] = [
     ("worked examples", |suite, _| suite.worked_examples()),
     ("broken nodes", |suite, _| suite.broken_nodes()),
     ("broken pairs", |suite, _| suite.broken_pairs()),
+    ("broken packed programs", |suite, effort| suite.broken_packed(effort.random_rules)),
     ("unused nodes", |suite, _| suite.unused_nodes()),
     ("limits", |suite, _| suite.limits()),
     ("damaged images and arguments", |suite, effort| suite.damaged(effort.damages)),
@@ -83,6 +93,7 @@ pub const PARTS: [(&str, Part); 13] = [
     ("every small book", |suite, effort| suite.every_small_book(effort.stride)),
     ("random books", |suite, effort| suite.random_books(effort.small_books, effort.large_books)),
     ("random programs", |suite, effort| suite.random_programs(effort.small_programs, effort.large_programs)),
+    ("rules of up to eight literals", |suite, effort| suite.packed_programs(effort.split_programs)),
     ("labels of small books", |suite, effort| suite.labels(effort.labelled_books)),
     ("small books with pairs", |suite, effort| suite.paired_books(effort.paired_books)),
     ("candidates and their subsets", |suite, effort| suite.candidates(effort.many_truths, effort.stride)),
@@ -133,6 +144,15 @@ impl<'c> Suite<'c> {
     fn gives(&mut self, call: Call, image: &[u8], reading: &[u8], expected: usize) -> Checked<()> {
         let result = self.accepted(call, image, reading)?;
         demand(result == expected, call, image, || format!("with {} the result should be {expected}", hex(reading)))
+    }
+
+    /// Runs a call on the images of one program, which must accept it and agree on the result.
+    fn alike(&mut self, call: Call, images: &[Vec<u8>], reading: &[u8]) -> Checked<usize> {
+        let expected = self.accepted(call, &images[0], reading)?;
+        for image in &images[1..] {
+            self.gives(call, image, reading, expected)?;
+        }
+        Ok(expected)
     }
 
     /// Runs a call that writes, and is accepted in `room` bytes; gives a copy of what it wrote.

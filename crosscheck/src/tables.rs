@@ -25,10 +25,10 @@ impl Measure<'_> {
     }
 
     fn calls(&mut self) {
-        println!("{:<17} {:<34} {}", "call", "input", columns());
+        println!("{:<17} {:<40} {}", "call", "input", columns());
         for input in inputs::all() {
             let costs = (self.cost)(&input);
-            println!("{:<17} {:<34} {}", input.call.name(), input.name, self.cells(&costs));
+            println!("{:<17} {:<40} {}", input.call.function(), input.name, self.cells(&costs));
         }
     }
 

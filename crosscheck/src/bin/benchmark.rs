@@ -71,7 +71,7 @@ fn median(mut times: Vec<f64>) -> f64 {
 /// Prints the stack that each call uses on each side.
 fn stacks(sides: &[&Calls]) {
     println!(
-        "\nstack in bytes, to the deepest byte changed\n{:<17} {:<34} {:>12} {:>12}",
+        "\nstack in bytes, to the deepest byte changed\n{:<17} {:<40} {:>12} {:>12}",
         "call", "input", "plain", "library"
     );
     for input in inputs::all() {
@@ -83,6 +83,6 @@ fn stacks(sides: &[&Calls]) {
             let small = if bytes == stack::SKIPPED { "at most " } else { "" };
             format!("{:>12}", format!("{small}{bytes}"))
         });
-        println!("{:<17} {:<34} {}", input.call.name(), input.name, used.collect::<Vec<_>>().join(" "));
+        println!("{:<17} {:<40} {}", input.call.function(), input.name, used.collect::<Vec<_>>().join(" "));
     }
 }

@@ -60,6 +60,8 @@ fn run(suite: &mut Suite, effort: Effort) -> Checked<()> {
             let name = format!("flat programs by clingo, {books} books {kind} pairs");
             timed(suite, &name, |suite| suite.solver(books, pairs))?;
         }
+        let name = format!("flat programs by clingo, {books} packed ones by hand");
+        timed(suite, &name, |suite| suite.solver_of_programs(books))?;
     } else {
         println!("flat programs by clingo: skipped, there is no clingo on the path");
     }

@@ -29,7 +29,7 @@ fn print(archive: &str, objdump: &str) -> Result<(), String> {
     let text = printed(objdump, &["-d", "--no-show-raw-insn", archive])? + &printed(objdump, &["-r", archive])?;
     let bounds = Bounds::read(&text)?;
     if let Some(call) = Call::ALL.into_iter().find(|call| !bounds.cover(*call)) {
-        return Err(format!("{archive} has no code of {}", call.name()));
+        return Err(format!("{archive} has no code of {}", call.function()));
     }
     println!("stack in bytes, at most, by the frames of the compiled code\n{:<17} {:>6}  path", "call", "bound");
     print!("{bounds}");

@@ -7,6 +7,7 @@ use crate::reference;
 use crate::suite::{Effort, Suite, PARTS};
 
 mod candidates;
+mod packed;
 mod pairs;
 mod unused;
 
@@ -45,7 +46,7 @@ fn broken_answers<B: Break>() -> Calls {
     Calls {
         check_theory: |theory| B::answer(reference::check_theory(theory)),
         evaluate_theory: |theory, reading| B::answer(reference::evaluate_theory(theory, reading)),
-        translate: |theory, out| B::answer(reference::translate(theory, out)),
+        translate: |theory, packed, out| B::answer(reference::translate(theory, packed, out)),
         extend: |theory, reading, out| B::answer(reference::extend(theory, reading, out)),
         test_theory: |theory, candidate| B::answer(reference::test_theory(theory, candidate)),
         list_sets: |theory, out| B::answer(reference::list_sets(theory, out)),
@@ -67,8 +68,8 @@ fn refuses_everything() {
 
 #[test]
 fn header_before_room_is_known() {
-    fn translate(theory: &[u8], out: &mut [u8]) -> Answer {
-        let answer = reference::translate(theory, out);
+    fn translate(theory: &[u8], packed: bool, out: &mut [u8]) -> Answer {
+        let answer = reference::translate(theory, packed, out);
         if answer.number == 8 {
             out.iter_mut().take(16).for_each(|byte| *byte = 0);
         }
@@ -91,8 +92,8 @@ fn writes_before_the_buffer_ends_but_past_its_part() {
 
 #[test]
 fn buffer_left_alone() {
-    fn translate(theory: &[u8], out: &mut [u8]) -> Answer {
-        reference::translate(theory, &mut out.to_vec())
+    fn translate(theory: &[u8], packed: bool, out: &mut [u8]) -> Answer {
+        reference::translate(theory, packed, &mut out.to_vec())
     }
     found("translate", Calls { translate, ..reference::CALLS });
 }
@@ -100,9 +101,9 @@ fn buffer_left_alone() {
 #[test]
 fn a_limit_below_the_largest_b() {
     const REFUSED: Answer = Answer { number: 2, place: 0, result: 0 };
-    fn translate(theory: &[u8], out: &mut [u8]) -> Answer {
+    fn translate(theory: &[u8], packed: bool, out: &mut [u8]) -> Answer {
         let mut program = out.to_vec();
-        let answer = reference::translate(theory, &mut program);
+        let answer = reference::translate(theory, packed, &mut program);
         if answer.number == 0 && get2(&program, 2) == 3070 {
             return REFUSED;
         }
@@ -274,7 +275,7 @@ fn a_number_that_is_no_row_of_the_call() {
         Answer { number: theory[0].into(), place: 0, result: 0 }
     }
     let broken =
-        Calls { translate: |theory, _| first(theory), extend: |theory, _, _| first(theory), ..reference::CALLS };
+        Calls { translate: |theory, _, _| first(theory), extend: |theory, _, _| first(theory), ..reference::CALLS };
     let mut comparer = Comparer::new(&broken, &broken);
     let mut passed = |call: Call| -> Vec<u8> {
         (0..=255).filter(|&number| comparer.call(call, &[number], &[], 0).is_ok()).collect()

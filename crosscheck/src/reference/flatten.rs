@@ -1,5 +1,8 @@
+use super::form::Form;
 use super::theory::{labels, Theory, MOST_NODES};
 use crate::node::Node;
+use std::marker::PhantomData;
+use std::mem;
 
 /// What stands for a node in a flat rule.
 #[derive(Clone, Copy, PartialEq, Eq)]
@@ -24,12 +27,15 @@ pub struct Size {
     /// The number of all atoms, labels included.
     pub all: usize,
     pub rules: usize,
+    pub literals: usize,
 }
 
-/// Fills in the terms, numbering the labels, and counts the rules.
+/// Fills in the terms, numbering the labels, and counts the rules and their literals. It is inlined, so that for a form
+/// that does not ask for the literals they are not counted.
+#[inline(always)]
 pub fn measure(theory: &Theory, terms: &mut Terms) -> Size {
     let mut all = theory.atoms;
-    let mut counter = Counter { rules: 0 };
+    let mut counter = Counter { rules: 0, literals: 0 };
     for (own, node) in theory.nodes().enumerate() {
         terms[own] = match node {
             Node::False => FALSE,
@@ -41,12 +47,12 @@ pub fn measure(theory: &Theory, terms: &mut Terms) -> Size {
         node_rules(own, node, terms, &mut counter);
     }
     last_rules(theory, terms, &mut counter);
-    Size { all, rules: counter.rules }
+    Size { all, rules: counter.rules, literals: counter.literals }
 }
 
-/// Writes the rules, ten bytes each, from the start of `out` on.
-pub fn write(theory: &Theory, terms: &Terms, out: &mut [u8]) {
-    let mut writer = Writer { free: out.chunks_exact_mut(10) };
+/// Writes the rules, one after the other, from the start of `out` on.
+pub fn write<F: Form>(theory: &Theory, terms: &Terms, out: &mut [u8]) {
+    let mut writer = Writer::<F> { free: out, form: PhantomData };
     for (own, node) in theory.nodes().enumerate() {
         node_rules(own, node, terms, &mut writer);
     }
@@ -119,8 +125,16 @@ fn idle(heads: &[Term], positives: &[Term], negatives: &[Term]) -> bool {
     heads.contains(&Term::True) || positives.contains(&Term::False) || negatives.contains(&Term::True)
 }
 
+/// The literals that stay: those that are no constants.
+#[inline]
+fn literals(heads: &[Term], positives: &[Term], negatives: &[Term]) -> usize {
+    let atoms = |terms: &[Term]| terms.iter().filter(|term| matches!(term, Term::Atom(_))).count();
+    atoms(heads) + atoms(positives) + atoms(negatives)
+}
+
 struct Counter {
     rules: usize,
+    literals: usize,
 }
 
 impl Sink for Counter {
@@ -128,34 +142,53 @@ impl Sink for Counter {
     fn rule(&mut self, heads: &[Term], positives: &[Term], negatives: &[Term]) {
         if !idle(heads, positives, negatives) {
             self.rules += 1;
+            self.literals += literals(heads, positives, negatives);
         }
     }
 }
 
-struct Writer<'a> {
-    free: std::slice::ChunksExactMut<'a, u8>,
+struct Writer<'a, F> {
+    free: &'a mut [u8],
+    form: PhantomData<F>,
 }
 
-impl Sink for Writer<'_> {
+impl<F: Form> Sink for Writer<'_, F> {
     #[inline(always)]
     fn rule(&mut self, heads: &[Term], positives: &[Term], negatives: &[Term]) {
         if idle(heads, positives, negatives) {
             return;
         }
-        let rule = self.free.next().expect("the rules were counted");
-        rule.fill(0);
-        let mut at = 4;
-        let mut put = |part: usize, terms: &[Term]| {
-            for &term in terms {
-                if let Term::Atom(atom) = term {
-                    rule[part] += 1;
-                    rule[at..at + 2].copy_from_slice(&atom.to_le_bytes());
-                    at += 2;
-                }
-            }
-        };
-        put(0, heads);
-        put(1, positives);
-        put(2, negatives);
+        // A packed rule, too, is written over ten bytes where there are so many: those that it does not use belong to the
+        // next one.
+        let free = mem::take(&mut self.free);
+        if F::PACKED && free.len() < 10 {
+            let mut rule = [0; 10];
+            let length = F::length(1, fill(&mut rule, heads, positives, negatives));
+            free[..length].copy_from_slice(&rule[..length]);
+            self.free = &mut free[length..];
+        } else {
+            let literals = fill(&mut free[..10], heads, positives, negatives);
+            self.free = &mut free[F::length(1, literals)..];
+        }
     }
+}
+
+/// Writes a rule over ten bytes, those that it does not use as zeros, and gives the number of its literals.
+#[inline(always)]
+fn fill(rule: &mut [u8], heads: &[Term], positives: &[Term], negatives: &[Term]) -> usize {
+    rule.fill(0);
+    let mut at = 4;
+    let mut put = |part: usize, terms: &[Term]| {
+        for &term in terms {
+            if let Term::Atom(atom) = term {
+                rule[part] += 1;
+                rule[at..at + 2].copy_from_slice(&atom.to_le_bytes());
+                at += 2;
+            }
+        }
+    };
+    put(0, heads);
+    put(1, positives);
+    put(2, negatives);
+    (at - 4) / 2
 }

@@ -1,12 +1,14 @@
 //! The nine public calls in plain Rust: bounds-checked, without allocation, each image walked front to back.
 
 mod flatten;
+mod form;
 mod program;
 mod theory;
 mod value;
 
 use crate::calls::{Answer, Calls};
 use crate::node::Node;
+use form::{Fixed, Form, Packed};
 use program::{Program, MOST_ALL};
 use theory::{Theory, MOST_ATOMS, NO_VALUES};
 
@@ -69,8 +71,11 @@ pub fn evaluate_theory(theory: &[u8], reading: &[u8]) -> Answer {
     answer(try_evaluate_theory(theory, reading))
 }
 
-pub fn translate(theory: &[u8], out: &mut [u8]) -> Answer {
-    answer(try_translate(theory, out))
+pub fn translate(theory: &[u8], packed: bool, out: &mut [u8]) -> Answer {
+    answer(match packed {
+        true => try_translate::<Packed>(theory, out),
+        false => try_translate::<Fixed>(theory, out),
+    })
 }
 
 pub fn extend(theory: &[u8], reading: &[u8], out: &mut [u8]) -> Answer {
@@ -104,20 +109,20 @@ fn try_evaluate_theory(theory: &[u8], reading: &[u8]) -> Outcome<usize> {
     Ok(usize::from(theory.satisfied(reading, &mut values)))
 }
 
-fn try_translate(theory: &[u8], out: &mut [u8]) -> Outcome<usize> {
+fn try_translate<F: Form>(theory: &[u8], out: &mut [u8]) -> Outcome<usize> {
     let theory = Theory::check(theory)?;
     let mut terms = flatten::NO_TERMS;
     let size = flatten::measure(&theory, &mut terms);
-    let out = check_room(out, HEADER + 10 * size.rules)?;
+    let out = check_room(out, HEADER + F::length(size.rules, size.literals))?;
     let length = out.len() as u32;
     let (header, body) = out.split_at_mut(HEADER);
     header[0..2].copy_from_slice(&(theory.atoms as u16).to_le_bytes());
     header[2..4].copy_from_slice(&(size.all as u16).to_le_bytes());
     header[4..6].copy_from_slice(&(size.rules as u16).to_le_bytes());
-    header[6..8].fill(0);
+    header[6..8].copy_from_slice(&u16::from(F::PACKED).to_le_bytes());
     header[8..12].copy_from_slice(&(HEADER as u32).to_le_bytes());
     header[12..16].copy_from_slice(&length.to_le_bytes());
-    flatten::write(&theory, &terms, body);
+    flatten::write::<F>(&theory, &terms, body);
     Ok(size.rules)
 }
 

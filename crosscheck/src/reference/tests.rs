@@ -6,6 +6,7 @@ use crate::lists::{Book, Program, Rule};
 use crate::{formula, worked};
 
 mod candidates;
+mod packed;
 mod pairs;
 mod unused;
 
@@ -26,7 +27,7 @@ fn listed(image: &[u8]) -> Vec<u32> {
 
 fn translated(image: &[u8]) -> (usize, Vec<u8>) {
     let mut out = vec![0xEE; 70_000];
-    let answer = translate(image, &mut out);
+    let answer = translate(image, false, &mut out);
     assert_eq!((answer.number, answer.place), (0, 0));
     let length = 16 + 10 * answer.result;
     assert!(out[length..].iter().all(|&byte| byte == 0xEE));
@@ -215,9 +216,9 @@ fn limits_of_a_listing() {
 fn room_for_a_program() {
     let image = p1().image();
     let mut out = [9; 76];
-    assert_eq!(translate(&image, &mut out[..75]), refused(8, 76));
+    assert_eq!(translate(&image, false, &mut out[..75]), refused(8, 76));
     assert_eq!(out, [9; 76]);
-    assert_eq!(translate(&image, &mut out), accepted(6));
+    assert_eq!(translate(&image, false, &mut out), accepted(6));
     let mut out = [9; 3];
     assert_eq!(extend(&image, &[1], &mut out[..2]), refused(8, 3));
     assert_eq!(out, [9; 3]);
@@ -255,7 +256,7 @@ fn the_largest_programs_of_a_book() {
 fn a_first_node_takes_no_label() {
     for first in [Node::Not(0), Node::And(0, 0), Node::Or(0, 0), Node::Implies(0, 0)] {
         let image = implications(first, 0, 0);
-        assert_eq!(translate(&image, &mut [0; 70_000]), refused(6, 2));
+        assert_eq!(translate(&image, false, &mut [0; 70_000]), refused(6, 2));
         assert_eq!(extend(&image, &[1; 1024], &mut [0; 4096]), refused(6, 2));
     }
 }
@@ -400,7 +401,8 @@ fn rows_of_a_program() {
     assert_eq!(check_program(&good), accepted(1));
     assert_eq!(check_program(&good[..15]), refused(21, 0));
     assert_eq!(with(&[(2, 0)]), refused(22, 0));
-    assert_eq!(with(&[(6, 1)]), refused(23, 0));
+    assert_eq!(with(&[(6, 2)]), refused(23, 0));
+    assert_eq!(with(&[(7, 1)]), refused(23, 0));
     assert_eq!(with(&[(8, 15)]), refused(24, 0));
     assert_eq!(with(&[(12, 0x4D)]), refused(24, 0));
     assert_eq!(check_program(&good[..75]), refused(25, 76));

@@ -3,15 +3,15 @@
 use super::{all_readings, demand, sets, truths, Suite, Tally};
 use crate::calls::Call;
 use crate::compare::{hex, Checked, Finding};
-use crate::lists::{self, Book, Pair};
+use crate::lists::{self, Book, Pair, Program};
 use crate::node::Node;
 use crate::{damage, generate};
 
-/// A book, its image and the image of its program, in which there are `all` atoms.
+/// A book, its image and both images of its program, in which there are `all` atoms.
 struct Translated<'b> {
     book: &'b Book,
     image: &'b [u8],
-    program: Vec<u8>,
+    programs: [Vec<u8>; 2],
     all: usize,
 }
 
@@ -33,17 +33,16 @@ impl Suite<'_> {
         self.books.accepted += 1;
         let flat = book.flat();
         self.yes(Call::CheckTheory, image, &[])?;
-        let (answer, program) = self.rooms(Call::Translate, image, &[], 16 + 10 * flat.rules.len())?;
-        let same = answer.result == flat.rules.len() && program == flat.image();
-        demand(same, Call::Translate, image, || format!("the program should be {}", hex(&flat.image())))?;
-        self.yes(Call::CheckProgram, &program, &[])?;
+        let programs = self.translations(image, &flat)?;
 
-        let translated = Translated { book, image, program, all: flat.all };
+        let translated = Translated { book, image, programs, all: flat.all };
         for (index, reading) in readings.iter().enumerate() {
             self.reading(&translated, reading, index == 0)?;
         }
         self.bad_readings(&[Call::EvaluateTheory, Call::Extend, Call::TestTheory], image, book.atoms)?;
-        self.bad_readings(&[Call::EvaluateProgram, Call::TestProgram], &translated.program, flat.all)?;
+        for program in &translated.programs {
+            self.bad_readings(&[Call::EvaluateProgram, Call::TestProgram], program, flat.all)?;
+        }
         for candidate in candidates {
             self.candidate(&translated, candidate)?;
         }
@@ -54,6 +53,19 @@ impl Suite<'_> {
             self.listing(book, image)?;
         }
         Ok(())
+    }
+
+    /// Translation into both forms, in all kinds of buffers. Both programs are read as these rules.
+    pub(super) fn translations(&mut self, image: &[u8], flat: &Program) -> Checked<[Vec<u8>; 2]> {
+        let programs = [flat.image(), flat.packed()];
+        for (call, program) in [Call::Translate, Call::TranslatePacked].into_iter().zip(&programs) {
+            let (answer, written) = self.rooms(call, image, &[], program.len())?;
+            let same = answer.result == flat.rules.len() && written == *program;
+            demand(same, call, image, || format!("the program should be {}", hex(program)))?;
+            self.yes(Call::CheckProgram, program, &[])?;
+            demand(Program::read(program) == *flat, call, image, || "the program reads as other rules".into())?;
+        }
+        Ok(programs)
     }
 
     /// Evaluation and extension under one reading, and evaluation of the program under what extension gives.
@@ -71,8 +83,8 @@ impl Suite<'_> {
         demand(answer.result == on.all && extended == expected, Call::Extend, on.image, || {
             format!("the extension of {} should be {}", hex(reading), hex(&expected))
         })?;
-        let flat_satisfied = self.accepted(Call::EvaluateProgram, &on.program, &extended)? == 1;
-        demand(flat_satisfied == satisfied, Call::EvaluateProgram, &on.program, || {
+        let flat_satisfied = self.alike(Call::EvaluateProgram, &on.programs, &extended)? == 1;
+        demand(flat_satisfied == satisfied, Call::EvaluateProgram, &on.programs[0], || {
             format!("the book and its program disagree on {}", hex(&extended))
         })
     }
@@ -88,13 +100,15 @@ impl Suite<'_> {
         let (_, extended) = self.output(Call::Extend, on.image, candidate, on.all)?;
         match truths(&extended) {
             flat_truths @ 17.. => {
-                self.comparer.expect(Call::TestProgram, &on.program, &extended, 0, 11, Some(flat_truths))?;
+                for program in &on.programs {
+                    self.comparer.expect(Call::TestProgram, program, &extended, 0, 11, Some(flat_truths))?;
+                }
             }
             // Many subsets take long, so only some of these.
             11..=16 if !self.random.chance(3) => {}
             _ => {
-                let flat_found = self.accepted(Call::TestProgram, &on.program, &extended)?;
-                demand(flat_found == found, Call::TestProgram, &on.program, || {
+                let flat_found = self.alike(Call::TestProgram, &on.programs, &extended)?;
+                demand(flat_found == found, Call::TestProgram, &on.programs[0], || {
                     format!("the book and its program disagree on the candidate {}", hex(&extended))
                 })?;
             }

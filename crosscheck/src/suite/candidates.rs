@@ -81,11 +81,13 @@ impl Suite<'_> {
         Ok(())
     }
 
-    /// The candidate of a case for its program and, where that has not too many atoms, for its book.
+    /// The candidate of a case for its program in both forms and, where that has not too many atoms, for its book.
     fn both(&mut self, case: &Case, test: impl Fn(&mut Self, Call, &[u8], &[u8]) -> Checked<()>) -> Checked<()> {
         let candidate = generate::set_of(case.atoms, &case.truths);
         let program = case.program();
-        test(self, Call::TestProgram, &program.image(), &candidate)?;
+        for image in program.images() {
+            test(self, Call::TestProgram, &image, &candidate)?;
+        }
         match case.atoms > MOST_IN_A_THEORY {
             true => Ok(()),
             false => test(self, Call::TestTheory, &book(&program).image(), &candidate),

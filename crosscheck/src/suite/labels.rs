@@ -31,16 +31,15 @@ impl Suite<'_> {
     /// Every reading with every value of every label, and three times further formulas.
     fn labels_of(&mut self, book: &Book, all: usize) -> Checked<()> {
         let image = book.image();
-        let needed = 16 + 10 * book.flat().rules.len();
-        let (_, program) = self.output(Call::Translate, &image, &[], needed)?;
+        let programs = self.translations(&image, &book.flat())?;
         let mut satisfied = vec![false; power_of_three(all)];
         for reading in all_readings(book.atoms) {
             let in_book = self.accepted(Call::EvaluateTheory, &image, &reading)? == 1;
             let (_, own) = self.output(Call::Extend, &image, &reading, all)?;
             for labels in all_readings(all - book.atoms) {
                 let extended = [&reading[..], &labels].concat();
-                let in_program = self.accepted(Call::EvaluateProgram, &program, &extended)? == 1;
-                demand(in_program == (in_book && extended == own), Call::EvaluateProgram, &program, || {
+                let in_program = self.alike(Call::EvaluateProgram, &programs, &extended)? == 1;
+                demand(in_program == (in_book && extended == own), Call::EvaluateProgram, &programs[0], || {
                     format!(
                         "{} {}, and the extension is {}",
                         hex(&extended),

@@ -6,6 +6,11 @@ use crate::compare::{hex, Checked};
 use crate::lists::{self, get2, Book, Pair, Set};
 use crate::{damage, generate};
 
+/// The bytes of the longest program of a book: 6,522 rules; packed, 52 bytes for each of 1,023 implications, 6 for each of
+/// 256 roots and 8 for each of 128 pairs.
+const LONGEST: usize = 16 + 10 * 6522;
+const LONGEST_PACKED: usize = 16 + 52 * 1023 + 6 * 256 + 8 * 128;
+
 impl Suite<'_> {
     /// Images with bad pairs or a wrong count of them, and as many pairs as there can be.
     pub fn broken_pairs(&mut self) -> Checked<()> {
@@ -83,7 +88,8 @@ impl Suite<'_> {
             self.refused(&book.image(), 2, 0)?;
         }
         let longest = generate::longest(&mut self.random, 1024, 1024, 256, 128).image();
-        self.rooms(Call::Translate, &longest, &[], 16 + 10 * 6522)?;
+        self.rooms(Call::Translate, &longest, &[], LONGEST)?;
+        self.rooms(Call::TranslatePacked, &longest, &[], LONGEST_PACKED)?;
 
         let book = generate::free(generate::book(&mut self.random, 12, 0, 0, 8));
         let (listed, kept) = (self.listed(&book)?, kept((0..1 << 12).collect(), &book.pairs));

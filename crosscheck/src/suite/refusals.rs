@@ -1,6 +1,6 @@
 //! Both sides of every limit, and images and arguments that are refused.
 
-use super::Suite;
+use super::{demand, Suite};
 use crate::calls::Call;
 use crate::compare::Checked;
 use crate::lists::{get2, Book, Program, Rule};
@@ -25,7 +25,9 @@ impl Suite<'_> {
         for truths in [15, 16, 17] {
             let (program, set) = generate::fact_program(&mut self.random, 3072, 300, truths);
             let (number, place) = if truths > 16 { (11, truths) } else { (0, 0) };
-            self.comparer.expect(Call::TestProgram, &program.image(), &set, 0, number, Some(place))?;
+            for image in program.images() {
+                self.comparer.expect(Call::TestProgram, &image, &set, 0, number, Some(place))?;
+            }
         }
         Ok(())
     }
@@ -96,7 +98,7 @@ impl Suite<'_> {
         for first in [Node::Not(0), Node::And(0, 0), Node::Or(0, 0), Node::Implies(0, 0)] {
             let mut book = generate::longest(&mut self.random, 1024, 1024, 256, 128);
             book.nodes[0] = first;
-            for call in [Call::CheckTheory, Call::Translate, Call::Extend] {
+            for call in [Call::CheckTheory, Call::Translate, Call::TranslatePacked, Call::Extend] {
                 self.comparer.expect(call, &book.image(), &[1; 1024], 0, 6, Some(2))?;
             }
         }
@@ -122,7 +124,9 @@ impl Suite<'_> {
         ];
         for (atoms, all, rules, number, place) in programs {
             let program = Program { atoms, all, rules };
-            self.comparer.expect(Call::CheckProgram, &program.image(), &[], 0, number, Some(place))?;
+            for image in program.images() {
+                self.comparer.expect(Call::CheckProgram, &image, &[], 0, number, Some(place))?;
+            }
             if number == 0 {
                 self.program(&program, 3)?;
             }
@@ -159,12 +163,14 @@ impl Suite<'_> {
         Ok(())
     }
 
-    /// Every call that takes a theory refuses this one by this row, with this place, whatever else it is given: a good
-    /// interpretation, one too long, one of wrong bytes, a candidate of all atoms, no room and much room.
+    /// Every call that takes this image, a program if the row is one of a program, refuses it by this row with this
+    /// place, whatever else it is given: a good interpretation, one too long, one of wrong bytes, a candidate of all
+    /// atoms, no room and much room.
     pub(super) fn refused(&mut self, image: &[u8], number: u32, place: usize) -> Checked<()> {
-        let atoms = get2(image, 0);
+        let on_program = number > 20;
+        let atoms = atoms_of(image, on_program);
         let readings = [vec![0; atoms], vec![0; atoms + 1], vec![3; atoms], vec![2; atoms]];
-        for call in Call::ALL.into_iter().filter(|call| !call.on_program()) {
+        for call in Call::ALL.into_iter().filter(|call| call.on_program() == on_program) {
             let readings = if call.reads() { &readings[..] } else { &readings[..1] };
             let rooms = if call.writes() { &[0, 4096][..] } else { &[0] };
             for (reading, &room) in readings.iter().flat_map(|reading| rooms.iter().map(move |room| (reading, room))) {
@@ -214,7 +220,7 @@ impl Suite<'_> {
             let on_program = random.chance(40);
             let mut image = if on_program {
                 let (all, rules) = (random.below(9), random.below(7));
-                generate::program(random, all / 2, all, rules).image()
+                any_program(random, all / 2, all, rules)
             } else {
                 let (atoms, nodes, roots, pairs) = (random.below(6), random.below(9), random.below(4), random.below(4));
                 self.any_book(atoms, nodes, roots, pairs).image()
@@ -223,8 +229,7 @@ impl Suite<'_> {
             for _ in 0..random.within(1, 3) {
                 mutate(random, &mut image);
             }
-            let at = if on_program { 2 } else { 0 };
-            let atoms = image.get(at..at + 2).map_or(0, |bytes| get2(bytes, 0));
+            let atoms = atoms_of(&image, on_program);
             for call in Call::ALL.into_iter().filter(|call| call.on_program() == on_program) {
                 let random = &mut self.random;
                 let reading = match call.tests() || random.chance(20) {
@@ -232,7 +237,10 @@ impl Suite<'_> {
                     false => generate::reading(random, atoms.min(3100)),
                 };
                 let room = random.below(300);
-                self.comparer.call(call, &image, &reading, room)?;
+                let answer = self.comparer.call(call, &image, &reading, room)?;
+                if call == Call::CheckProgram && answer.number == 0 {
+                    demand(rewritten(&image) == image, call, &image, || "read and written it differs".into())?;
+                }
             }
         }
         Ok(())
@@ -277,10 +285,11 @@ impl Broken {
         let all = random.within(low, if self.large { 3072 } else { low + 20 });
         let given = random.below(all.min(1024) + 1);
         let rules = random.within(1, if self.large { 6528 } else { 8 });
-        let mut image = generate::program(random, given, all, rules).image();
+        let mut image = any_program(random, given, all, rules);
+        let starts = damage::starts(&image);
         for row in damage::PROGRAM_ORDER {
             if self.has(row) {
-                self.damage(row, || damage::program(random, &mut image, row));
+                self.damage(row, || damage::program(random, &mut image, &starts, row));
             }
         }
         (image, all, 0)
@@ -316,7 +325,8 @@ impl Broken {
     fn theory(&mut self, random: &mut Random, call: Call) -> (Vec<u8>, usize, usize) {
         let book = self.book(random, call);
         let needed = match call {
-            Call::Translate => 16 + 10 * book.flat().rules.len(),
+            Call::Translate => book.flat().image().len(),
+            Call::TranslatePacked => book.flat().packed().len(),
             Call::Extend => book.flat().all,
             _ => 2,
         };
@@ -354,6 +364,29 @@ impl Broken {
             self.damage(10, || damage::reading_byte(random, &mut reading, call.tests()));
         }
         reading
+    }
+}
+
+/// How many atoms an image has by its header, where it has that much of one.
+fn atoms_of(image: &[u8], on_program: bool) -> usize {
+    let at = if on_program { 2 } else { 0 };
+    image.get(at..at + 2).map_or(0, |bytes| get2(bytes, 0))
+}
+
+/// What is written in the form of an image for the rules that it is read as.
+fn rewritten(image: &[u8]) -> Vec<u8> {
+    let program = Program::read(image);
+    match get2(image, 6) {
+        0 => program.image(),
+        _ => program.packed(),
+    }
+}
+
+/// The image of a random program of these sizes, in either form.
+fn any_program(random: &mut Random, atoms: usize, all: usize, rules: usize) -> Vec<u8> {
+    match random.chance(50) {
+        true => generate::program(random, atoms, all, rules, 8).packed(),
+        false => generate::program(random, atoms, all, rules, 3).image(),
     }
 }
 

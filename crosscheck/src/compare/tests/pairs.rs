@@ -42,7 +42,7 @@ fn changed<const WAY: usize>(theory: &[u8]) -> Vec<u8> {
 fn broken<const WAY: usize>() -> Calls {
     Calls {
         evaluate_theory: |theory, reading| reference::evaluate_theory(&changed::<WAY>(theory), reading),
-        translate: |theory, out| reference::translate(&changed::<WAY>(theory), out),
+        translate: |theory, packed, out| reference::translate(&changed::<WAY>(theory), packed, out),
         test_theory: |theory, candidate| reference::test_theory(&changed::<WAY>(theory), candidate),
         list_sets: |theory, out| reference::list_sets(&changed::<WAY>(theory), out),
         ..reference::CALLS
@@ -75,9 +75,9 @@ fn rules_of_pairs_once_or_in_another_order() {
 
 #[test]
 fn rules_of_pairs_before_the_facts() {
-    fn translate(theory: &[u8], out: &mut [u8]) -> Answer {
-        let answer = reference::translate(theory, out);
-        if answer.number == 0 && get2(theory, 4) > 0 && answer.result > get2(theory, 6) {
+    fn translate(theory: &[u8], packed: bool, out: &mut [u8]) -> Answer {
+        let answer = reference::translate(theory, packed, out);
+        if !packed && answer.number == 0 && get2(theory, 4) > 0 && answer.result > get2(theory, 6) {
             // The rule that stands before them goes to the end.
             let from = answer.result - get2(theory, 6) - 1;
             out[16 + 10 * from..16 + 10 * answer.result].rotate_left(10);

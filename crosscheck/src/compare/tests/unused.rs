@@ -195,9 +195,9 @@ fn unused_nodes_after_other_rows() {
             let answer = reference::evaluate_theory(theory, reading);
             later(answer, theory, |bare| reference::evaluate_theory(bare, reading))
         },
-        translate: |theory, out| {
-            let answer = reference::translate(theory, out);
-            later(answer, theory, |bare| reference::translate(bare, &mut out.to_vec()))
+        translate: |theory, packed, out| {
+            let answer = reference::translate(theory, packed, out);
+            later(answer, theory, |bare| reference::translate(bare, packed, &mut out.to_vec()))
         },
         extend: |theory, reading, out| {
             let answer = reference::extend(theory, reading, out);

@@ -112,7 +112,7 @@ fn limits_of_pairs() {
     assert_eq!(largest.len(), 7184);
     assert_eq!(translated(&largest).0, 6522);
     let mut out = vec![9; 16 + 10 * 6522 - 1];
-    assert_eq!(translate(&largest, &mut out), refused(8, 65_236));
+    assert_eq!(translate(&largest, false, &mut out), refused(8, 65_236));
     assert!(out.iter().all(|&byte| byte == 9));
 }
 

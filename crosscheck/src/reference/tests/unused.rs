@@ -103,7 +103,7 @@ fn rows_after_an_unused_node() {
     }
     // 8: the program would take 26 bytes, the labelled reading 2, and the one set 2.
     for room in [0, 1, 25] {
-        assert_eq!(translate(&LOOSE, &mut vec![0; room]), refused(13, 0));
+        assert_eq!(translate(&LOOSE, false, &mut vec![0; room]), refused(13, 0));
     }
     assert_eq!(extend(&LOOSE, &[0, 0], &mut [0; 1]), refused(13, 0));
     assert_eq!(list_sets(&LOOSE, &mut [0; 1]), refused(13, 0));
