@@ -2,9 +2,9 @@
 use mathlib.Core.Path.{_≡_, refl, _∙_}
 use mathlib.Core.Bool.{Bool, true, false, cond}
 use mathlib.Core.List.{List, [], _∷_, _++_, append-assoc, append-nil}
-use Prim.Native.Nat.{ℕ, zero, suc, _+_, _*_, _≤_}
+use Prim.Native.Nat.{ℕ, zero, suc, _+_, _*_}
 use native.Mathlib.Omega.{arith}
-use lib.ListN.{length, take, length-append}
+use lib.ListN.{length, length-append}
 use Rattle.program.specs.Rule.{Rule}
 use Rattle.program.specs.Program.{Program}
 use Rattle.program.specs.Image.{headerLength, slotCount, ruleLength, literals, literalTotal, slotBytes, countedBytes, ruleBytes, rulesBytes, imageLength, header, imageOf}
@@ -17,18 +17,6 @@ length-slotBytes l (suc n) = rw length-append (omega (arith, length-slotBytes l 
 -- The bytes of a rule of so many counts have its length.
 pub length-countedBytes : (packed : Bool) (h p n : ℕ) (slots : List ℕ) → length (countedBytes packed h p n slots) ≡ ruleLength packed (h + p + n)
 length-countedBytes packed h p n slots = omega (arith, length-slotBytes slots (slotCount packed (h + p + n)))
-
--- The packed form of a rule of at most three literals is the beginning of its fixed form.
-pub countedBytes-part : (h p n : ℕ) (slots : List ℕ) → h + p + n ≤ 3 → take (ruleLength true (h + p + n)) (countedBytes false h p n slots) ≡ countedBytes true h p n slots
-unfolding slotBytes
-countedBytes-part h p n slots few = parts (h + p + n) few
-  where
-    parts : (used : ℕ) → used ≤ 3 → take (ruleLength true used) (h ∷ p ∷ n ∷ 0 ∷ slotBytes slots 3) ≡ h ∷ p ∷ n ∷ 0 ∷ slotBytes slots used
-    parts zero l = refl
-    parts (suc zero) l = refl
-    parts (suc (suc zero)) l = refl
-    parts (suc (suc (suc zero))) l = refl
-    parts (suc (suc (suc (suc k)))) l = absurd (omega arith)
 
 -- The counts of a rule are its number of literals.
 pub literals-counted : (r : Rule) → length (r .heads) + length (r .positives) + length (r .negatives) ≡ length (literals r)

@@ -3,6 +3,7 @@ use logic::Value;
 use refusal::Answer;
 ghost use mathlib.Core.Path.{_≡_};
 ghost use mathlib.Core.Bool.{Bool, true, false, cond};
+ghost use mathlib.Core.List.{_∷_};
 ghost use Prim.Native.Nat.{ℕ, _+_, _*_, _≤_, _<_};
 ghost use lib.Dec.{leb, ltb};
 ghost use lib.ListN.{length};
@@ -15,8 +16,8 @@ ghost use Rattle.logic.specs.Formula.{readingOf, valueOf};
 ghost use Rattle.program.specs.Rule.{smallest, largest, holds};
 ghost use Rattle.program.specs.Program.{satisfiesProgram};
 ghost use Rattle.program.specs.Image.{sizeOf, headerLength, mostLiterals, slotCount, ruleLength, usedAt, slotAt, slotsFrom, ruleAt, programOf};
-ghost use Rattle.program.specs.Image.{slotKeeps, slotsKeep, ruleKeeps, countedBytes, imageLength, header};
-ghost use Rattle.program.specs.Literals.{Named, literalValue};
+ghost use Rattle.program.specs.Image.{slotKeeps, slotsKeep, ruleKeeps, slotBytes, countedBytes, imageLength, header};
+ghost use Rattle.program.specs.Literals.{Named, literalValue, slotPut};
 ghost use Rattle.program.specs.Rows.{outside, totalKeeps, brokenAt, programRows};
 
 // The bytes of a header, and of a rule in the fixed form.
@@ -87,26 +88,35 @@ pub fn header_bytes(packed: bool, atoms: usize, size: usize, rules: usize, total
     ]
 }
 
-// The ten bytes of a rule of so many heads, positives and negatives, in this order in the slots: those of the fixed form.
-fn rule_bytes(heads: usize, positives: usize, negatives: usize, slots: [usize; 3]) -> [u8; 10]
-    requires { ⌜ (heads < 256) × (positives < 256) × (negatives < 256) ⌝ }
-    ensures { λ r. ⌜ r ≡ countedBytes false heads positives negatives slots ⌝ }
+// Writes slot j of a rule behind its counts, if it is one of the first n.
+fn put_slot(out: &mut [u8], n: usize, j: usize, slot: usize)
+    requires { ⌜ (n ≤ 3) × (4 + n * 2 ≤ length (now out)) ⌝ }
+    ensures { λ _. ⌜ now (out .exit) ≡ slotPut n j slot (now (out .entry)) ⌝ }
 {
-    let a = wire::u16_bytes(slots[0]);
-    let b = wire::u16_bytes(slots[1]);
-    let c = wire::u16_bytes(slots[2]);
-    [
-        heads as u8,
-        positives as u8,
-        negatives as u8,
-        0,
-        a[0],
-        a[1],
-        b[0],
-        b[1],
-        c[0],
-        c[1],
-    ]
+    if n <= j {
+        return;
+    }
+    wire::put(&mut out[4 + j * 2..], &wire::u16_bytes(slot));
+}
+
+// Writes the counts of a rule of at most three literals and its first n slots, and gives how many bytes that is.
+fn put_counted(
+    out: &mut [u8],
+    heads: usize,
+    positives: usize,
+    negatives: usize,
+    slots: [usize; 3],
+    n: usize,
+) -> usize
+    requires { ⌜ (heads + positives + negatives ≤ 3) × (n ≤ 3) × (4 + n * 2 ≤ length (now out)) ⌝ }
+    ensures { λ r. ⌜ r ≡ 4 + n * 2 ⌝ }
+    ensures { λ _. ⌜ now (out .exit) ≡ over (heads ∷ positives ∷ negatives ∷ 0 ∷ slotBytes slots n) (now (out .entry)) ⌝ }
+{
+    wire::put(out, &[heads as u8, positives as u8, negatives as u8, 0]);
+    put_slot(out, n, 0, slots[0]);
+    put_slot(out, n, 1, slots[1]);
+    put_slot(out, n, 2, slots[2]);
+    4 + n * 2
 }
 
 // Writes a rule of at most three literals over the start of `out`, and gives how many bytes it has.
@@ -122,14 +132,17 @@ pub fn put_rule(
     ensures { λ r. ⌜ r ≡ length (countedBytes packed heads positives negatives slots) ⌝ }
     ensures { λ _. ⌜ now (out .exit) ≡ over (countedBytes packed heads positives negatives slots) (now (out .entry)) ⌝ }
 {
-    let bytes = rule_bytes(heads, positives, negatives, slots);
     if packed {
-        return wire::put(
+        return put_counted(
             out,
-            &bytes[..rule_length(true, heads + positives + negatives)],
+            heads,
+            positives,
+            negatives,
+            slots,
+            heads + positives + negatives,
         );
     }
-    wire::put(out, &bytes)
+    put_counted(out, heads, positives, negatives, slots, 3)
 }
 
 // Rows 21 to 26, in this order.

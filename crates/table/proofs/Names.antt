@@ -1,12 +1,13 @@
 -- Where no slot holds a constant every row's rule stays with all its literals: by induction on the slots and on the rows. Assumes nothing.
-use mathlib.Core.Path.{_≡_, refl, ap, _∙_}
-use mathlib.Core.Bool.{Bool, true, false, _&&_}
+use mathlib.Core.Path.{_≡_, refl, sym, ap, _∙_}
+use mathlib.Core.Bool.{Bool, true, false, _&&_, cond}
 use mathlib.Core.List.{List, [], _∷_, _++_, map, append-assoc}
 use Prim.Native.Nat.{ℕ, _+_, _≤_, _<_}
 use native.Mathlib.Omega.{arith}
 use lib.Dec.{ltb}
 use lib.ListN.{length, getD, length-map}
-use borrow.Author.Tests.{ltb-true, ne-eqb}
+use borrow.Author.Tests.{ltb-true, ltb-false, ne-eqb}
+use Rattle.refusal.proofs.Table.{cases}
 use Rattle.logic.proofs.Bools.{&&-split}
 use Rattle.wire.specs.Sequence.{upTo}
 use Rattle.wire.proofs.Sequence.{length-upTo, upTo-equal, map-upTo, upTo-append, getD-upTo-cond}
@@ -15,9 +16,9 @@ use Rattle.program.specs.Image.{literalTotal}
 use Rattle.program.proofs.Lengths.{literals-counted}
 use Rattle.flat.specs.Table.{Slot, x, y, L, M}
 use Rattle.flat.specs.Flat.{name, has, names, mapRule, removes, reduce, simplify}
-use Rattle.table.specs.Shapes.{rowLiterals, slotOf, slotNumber, slotsFrom, shapeRule, Fillable}
-use Rattle.table.specs.OneRule.{falseTerm, trueTerm, decode, filled, ruleIn, allNames, nameIn, madeOf}
-use Rattle.table.proofs.OneRule.{slotNumber-slotOf}
+use Rattle.table.specs.Shapes.{rowLiterals, slotOf, slotNumber, slotsFrom, usedBy, shapeRule, Fillable}
+use Rattle.table.specs.OneRule.{falseTerm, trueTerm, decode, filled, ruleIn, allNames, Ended, madeOf}
+use Rattle.table.proofs.OneRule.{slotNumber-slotOf, slot-named}
 
 -- A number below the constants' is a name's.
 decode-name : (n : ℕ) → n < falseTerm → decode n ≡ name n
@@ -83,22 +84,27 @@ module _ (terms : List ℕ) (all : allNames terms ≡ true) where
     number j = getD terms (getD s (3 + j) 0) 0
 
     -- and those in one part of the slots.
-    part : (start count : ℕ) (slot : ℕ → ℕ) → ((j : ℕ) → start + j ≡ 3 + slot j) → start + count ≤ 6
+    part : (start count : ℕ) (slot : ℕ → ℕ) → ((j : ℕ) → start + j ≡ 3 + slot j) → (3 ≤ start) × (start + count ≤ 3 + usedBy s)
         → names (map (filled terms) (slotsFrom s start count)) ≡ upTo (λ j. number (slot j)) count
     part start count slot e h =
         names-filled (slotsFrom s start count)
         ∙ map-upTo (numberIn terms) (λ j. slotOf (getD s (start + j) 0)) count
-        ∙ upTo-equal _ _ count (λ j l. ap (λ n. getD terms n 0) (slotNumber-slotOf (getD s (start + j) 0) (ok .named (start + j) (omega arith)) ∙ ap (λ i. getD s i 0) (e j)))
+        ∙ upTo-equal _ _ count (λ j l. ap (λ n. getD terms n 0) (slotNumber-slotOf (getD s (start + j) 0) (slot-named s ok (start + j) (omega (arith, h))) ∙ ap (λ i. getD s i 0) (e j)))
 
     -- The heads, then the positives, then the negatives are the numbers in all slots that are used.
     literals-names : upTo number H ++ (upTo (λ j. number (H + j)) P ++ upTo (λ j. number (H + P + j)) N) ≡ upTo number (H + P + N)
     literals-names = rw (upTo-append number (H + P) N, upTo-append number H P, append-assoc)
 
+    -- An unused slot holds 0.
+    number-used : Ended terms → (j : ℕ) → j < 3 → cond (ltb j (H + P + N)) (number j) 0 ≡ number j
+    number-used ended j l = cases (ltb j (H + P + N))
+        (λ t. rw t)
+        (λ t. let four : getD s (3 + j) 0 ≡ 4 = omega (arith, ltb-false (getD s (3 + j) 0) 4 (ok .slots j l ∙ t), ok .named (3 + j) (omega arith)) in rw (t, four) (sym ended))
+
     -- The rule that is made has all literals of the shape.
-    pub made-names : let at : ℕ → ℕ = nameIn s terms (H + P + N) in
-        record { kept = true; heads = H; positives = P; negatives = N; slots = at 0 ∷ at 1 ∷ at 2 ∷ [] } ≡ madeOf (ruleIn s terms)
+    pub made-names : Ended terms → record { kept = true; heads = H; positives = P; negatives = N; slots = number 0 ∷ number 1 ∷ number 2 ∷ [] } ≡ madeOf (ruleIn s terms)
     unfolding madeOf
-    made-names =
+    made-names ended =
         rw (
           removes-filled (shapeRule s),
           part 3 H (λ j. j) (λ j. refl) (omega arith),
@@ -113,4 +119,7 @@ module _ (terms : List ℕ) (all : allNames terms ≡ true) where
           getD-upTo-cond number (H + P + N) 0 0,
           getD-upTo-cond number (H + P + N) 1 0,
           getD-upTo-cond number (H + P + N) 2 0,
+          number-used ended 0 (omega arith),
+          number-used ended 1 (omega arith),
+          number-used ended 2 (omega arith),
         ))

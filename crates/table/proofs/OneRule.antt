@@ -7,7 +7,7 @@ use native.Mathlib.Numerals.{add-one}
 use native.Mathlib.Omega.{arith}
 use lib.Dec.{eqb}
 use lib.ListN.{getD, length, set, length-append, length-map}
-use borrow.Author.Tests.{eqb-true, ne-eqb}
+use borrow.Author.Tests.{eqb-true, ne-eqb, ltb-true, lt-ltb}
 use Rattle.refusal.proofs.Table.{cases}
 use Rattle.wire.specs.Sequence.{upTo}
 use Rattle.wire.proofs.Sequence.{length-upTo, map-upTo, upTo-equal}
@@ -17,7 +17,7 @@ use Rattle.program.proofs.Lengths.{literals-counted}
 use Rattle.flat.specs.Flat.{Term, constant, name, has, names, removes, reduce, simplify, fact}
 use Rattle.table.specs.declared.Literals.{Literals}
 use Rattle.table.specs.declared.Made.{Made}
-use Rattle.table.specs.Shapes.{slotOf, slotNumber, slotsFrom, Fillable}
+use Rattle.table.specs.Shapes.{slotOf, slotNumber, slotsFrom, usedBy, Fillable}
 use Rattle.table.specs.OneRule.{falseTerm, trueTerm, code, decode, filled, ruleIn, added, addedTo, firstThree, madeOf, madeUsed, Few, madeCount, madeLiterals, madeBytes}
 
 -- ---- the terms of numbers
@@ -118,15 +118,22 @@ addedTo-state b c l f (suc n) h =
 abbrev slotTerm : (s terms : List ℕ) (start j : ℕ) → ℕ
 slotTerm s terms start j = getD terms (getD s (start + j) 0) 0
 
+-- A slot that is used names x, y, L or M.
+pub slot-named : (s : List ℕ) → Fillable s → (i : ℕ) → (3 ≤ i) × (i < 3 + usedBy s) → getD s i 0 < 4
+slot-named s ok i h =
+    let j : ℕ = i - 3 in
+    let e : 3 + j ≡ i = omega (arith, h) in
+    ltb-true _ _ (rw e at (ok .slots j (omega (arith, h, ok .few)) ∙ lt-ltb j (usedBy s) (omega (arith, h))))
+
 module _ (s terms : List ℕ) (ok : Fillable s) where
-  slots-filled : (start count : ℕ) → start + count ≤ 6
+  slots-filled : (start count : ℕ) → (3 ≤ start) × (start + count ≤ 3 + usedBy s)
       → map (filled terms) (slotsFrom s start count) ≡ upTo (λ j. decode (getD terms (getD s (start + j) 0) 0)) count
   slots-filled start count h =
       map-upTo (filled terms) (λ j. slotOf (getD s (start + j) 0)) count
-      ∙ upTo-equal _ _ count (λ j l. ap (λ n. decode (getD terms n 0)) (slotNumber-slotOf (getD s (start + j) 0) (ok .named (start + j) (omega arith))))
+      ∙ upTo-equal _ _ count (λ j l. ap (λ n. decode (getD terms n 0)) (slotNumber-slotOf (getD s (start + j) 0) (slot-named s ok (start + j) (omega (arith, h)))))
 
   -- The heads, then the positives, then the negatives.
-  part : (b c : Bool) (l : List ℕ) (start count : ℕ) → start + count ≤ 6 → length l + count ≤ 3
+  part : (b c : Bool) (l : List ℕ) (start count : ℕ) → (3 ≤ start) × (start + count ≤ 3 + usedBy s) → length l + count ≤ 3
       → addedTo (state b l) (code (constant c)) (slotTerm s terms start) count
       ≡ state (b || has c (map (filled terms) (slotsFrom s start count))) (l ++ names (map (filled terms) (slotsFrom s start count)))
   part b c l start count h k = rw (slots-filled start count h) (addedTo-state b c l (slotTerm s terms start) count k)

@@ -1,17 +1,19 @@
 -- The code's rule table is the definitions' rule table: each kind's rows are computed and compared. Assumes nothing.
 use mathlib.Core.Path.{_≡_, refl}
+use mathlib.Core.Bool.{Bool, Bool·beq}
 use mathlib.Core.List.{List, []}
 use Prim.Native.Nat.{ℕ, zero, suc, _+_, _≤_, _<_}
 use native.Mathlib.Omega.{arith}
 use lib.Dec.{leb, ltb}
 use lib.ListN.{getD}
 use borrow.Author.Tests.{leb-true, ltb-true}
+use Rattle.logic.proofs.Bools.{beq-sound}
 use Rattle.logic.proofs.Finite.{all, all-at}
 use Rattle.wire.specs.Sequence.{upTo}
 use Rattle.theory.specs.Image.{kindOf}
 use Rattle.flat.specs.Table.{rows, labelCount}
 use Rattle.flat.proofs.ByKind.{labelCount-le}
-use Rattle.table.specs.Shapes.{shapes, firstRow, rowCount, labelsOf, literalsOf, rowsLiterals, shapeRule, kindShape, KindIn, Fillable}
+use Rattle.table.specs.Shapes.{shapes, firstRow, rowCount, labelsOf, literalsOf, rowsLiterals, usedBy, shapeRule, kindShape, KindIn, Fillable}
 
 -- What holds at each of the numbers 0 to 6 holds at each number below 7.
 kinds-cases : (P : ℕ → Type 0) → P 0 → P 1 → P 2 → P 3 → P 4 → P 5 → P 6 → (k : ℕ) → k < 7 → P k
@@ -36,11 +38,15 @@ labels-count = kinds-cases (λ k. labelsOf k ≡ labelCount (kindOf k)) refl ref
 pub literals-count : (k : ℕ) → k < 7 → literalsOf k ≡ rowsLiterals (rows (kindOf k))
 literals-count = kinds-cases (λ k. literalsOf k ≡ rowsLiterals (rows (kindOf k))) refl refl refl refl refl refl refl
 
--- A row has at most three literals, and its slots name x, y, L or M.
+-- A row has at most three literals, and the slots that it uses, and no others, name x, y, L or M.
+abbrev slotTest : (i j : ℕ) → Bool
+slotTest i j = let s = getD shapes i [] in Bool·beq (ltb (getD s (3 + j) 0) 4) (ltb j (usedBy s))
+
 shape-fillable : (i : ℕ) → i < 14 → Fillable (getD shapes i [])
 shape-fillable i h = record {
-  named = λ j l. ltb-true _ _ (all-at (λ j. ltb (getD (getD shapes i []) j 0) 4) 6 (all-at (λ i. all (λ j. ltb (getD (getD shapes i []) j 0) 4) 6) 14 refl i h) j l);
-  few = leb-true _ _ (all-at (λ i. let s = getD shapes i [] in leb (getD s 0 0 + getD s 1 0 + getD s 2 0) 3) 14 refl i h);
+  named = λ j l. ltb-true _ _ (all-at (λ j. ltb (getD (getD shapes i []) j 0) 5) 6 (all-at (λ i. all (λ j. ltb (getD (getD shapes i []) j 0) 5) 6) 14 refl i h) j l);
+  few = leb-true _ _ (all-at (λ i. leb (usedBy (getD shapes i [])) 3) 14 refl i h);
+  slots = λ j l. beq-sound _ _ (all-at (slotTest i) 3 (all-at (λ i. all (slotTest i) 3) 14 refl i h) j l);
 }
 
 -- A kind has at most two labels.

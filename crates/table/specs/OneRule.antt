@@ -1,4 +1,5 @@
 -- One rule as the code makes it: terms as numbers, and literals added one by one. Notes on the code, which no public promise names.
+use mathlib.Core.Path.{_≡_}
 use mathlib.Core.Bool.{Bool, true, false, not, _&&_, cond}
 use mathlib.Core.List.{List, [], _∷_}
 use Prim.Native.Nat.{ℕ, zero, suc, _+_, _≤_}
@@ -44,9 +45,9 @@ allNames terms = isName 0 && (isName 1 && (isName 2 && isName 3))
     isName : ℕ → Bool
     isName j = ltb (getD terms j 0) falseTerm
 
--- What stands in slot j of a rule of a shape that uses so many slots, where every term is a name: 0 where it is unused.
-abbrev pub nameIn : (s terms : List ℕ) → (used j : ℕ) → ℕ
-nameIn s terms used j = cond (ltb j used) (getD terms (getD s (3 + j) 0) 0) 0
+-- Behind the terms of x, y, L and M stands 0, which is what an unused slot holds.
+abbrev pub Ended : List ℕ → Type 0
+Ended terms = getD terms 4 0 ≡ 0
 
 -- One literal more, where the constant `removing` removes the rule: any other constant is dropped, and a name takes the next slot.
 abbrev pub added : Literals → (removing term : ℕ) → Literals

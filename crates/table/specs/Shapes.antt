@@ -3,33 +3,33 @@ use mathlib.Core.Path.{_≡_}
 use mathlib.Core.Bool.{cond}
 use mathlib.Core.List.{List, [], _∷_}
 use Prim.Native.Nat.{ℕ, _+_, _≤_, _<_}
-use lib.Dec.{eqb}
+use lib.Dec.{eqb, ltb}
 use lib.ListN.{length, getD}
 use Rattle.wire.specs.Sequence.{upTo}
 use Rattle.program.specs.Rule.{RuleOf}
 use Rattle.flat.specs.Table.{Slot, x, y, L, M}
 
--- A row: heads, positives, negatives, and which term in which slot, where x is 0, y 1, L 2 and M 3.
+-- A row: heads, positives, negatives, and which term in which slot, where x is 0, y 1, L 2 and M 3; 4 is an unused slot.
 abbrev shape : (heads positives negatives : ℕ) → (first second third : ℕ) → List ℕ
 shape h p n a b c = h ∷ p ∷ n ∷ a ∷ b ∷ c ∷ []
 
 -- A row for each rule.
 abbrev pub shapes : List (List ℕ)
 shapes =
-    shape 1 0 1 2 0 0 ∷  -- L ← not x
-    shape 0 2 0 2 0 0 ∷  -- ← L, x
-    shape 1 1 0 0 2 0 ∷  -- x ← L
-    shape 1 1 0 1 2 0 ∷  -- y ← L
+    shape 1 0 1 2 0 4 ∷  -- L ← not x
+    shape 0 2 0 2 0 4 ∷  -- ← L, x
+    shape 1 1 0 0 2 4 ∷  -- x ← L
+    shape 1 1 0 1 2 4 ∷  -- y ← L
     shape 1 2 0 2 0 1 ∷  -- L ← x, y
-    shape 1 1 0 2 0 0 ∷  -- L ← x
-    shape 1 1 0 2 1 0 ∷  -- L ← y
+    shape 1 1 0 2 0 4 ∷  -- L ← x
+    shape 1 1 0 2 1 4 ∷  -- L ← y
     shape 2 1 0 0 1 2 ∷  -- x | y ← L
     shape 1 2 0 1 2 0 ∷  -- y ← L, x
-    shape 1 0 1 2 0 0 ∷  -- L ← not x
-    shape 1 1 0 2 1 0 ∷  -- L ← y
+    shape 1 0 1 2 0 4 ∷  -- L ← not x
+    shape 1 1 0 2 1 4 ∷  -- L ← y
     shape 3 0 0 0 3 2 ∷  -- x | M | L ←
-    shape 1 0 1 3 1 0 ∷  -- M ← not y
-    shape 0 2 0 3 1 0 ∷  -- ← M, y
+    shape 1 0 1 3 1 4 ∷  -- M ← not y
+    shape 0 2 0 3 1 4 ∷  -- ← M, y
     []
 
 -- Of each kind from 0 to 6 its first row, its number of rows, its number of labels and its rows' number of literals.
@@ -68,13 +68,18 @@ pub record KindIn (table index : List (List ℕ)) (kind : ℕ) : Type 0 where
   pub counts : index ≡ kinds
   pub known : kind < 7
 
--- A row that can be filled: its slots name x, y, L or M, and it has at most three literals.
+-- How many slots a row uses.
+abbrev pub usedBy : List ℕ → ℕ
+usedBy s = getD s 0 0 + getD s 1 0 + getD s 2 0
+
+-- A row that can be filled: it has at most three literals, and the slots that it uses, and no others, name x, y, L or M.
 abbrev pub Named : List ℕ → Type 0
-Named s = (j : ℕ) → j < 6 → getD s j 0 < 4
+Named s = (j : ℕ) → j < 6 → getD s j 0 < 5
 
 pub record Fillable (s : List ℕ) : Type 0 where
   pub named : Named s
-  pub few : getD s 0 0 + getD s 1 0 + getD s 2 0 ≤ 3
+  pub few : usedBy s ≤ 3
+  pub slots : (j : ℕ) → j < 3 → ltb (getD s (3 + j) 0) 4 ≡ ltb j (usedBy s)
 
 -- The slot of a number, and the number of a slot.
 abbrev pub slotOf : ℕ → Slot

@@ -6,7 +6,7 @@ ghost use lib.ListN.{length, getD};
 ghost use Rattle.wire.specs.Wire.{over};
 ghost use Rattle.flat.specs.Flat.{fact};
 ghost use Rattle.table.specs.Shapes.{shapes, kinds, Named, Fillable};
-ghost use Rattle.table.specs.OneRule.{decode, ruleIn, allNames, nameIn, added, addedTo, madeOf, Few, madeLiterals, madeBytes};
+ghost use Rattle.table.specs.OneRule.{decode, ruleIn, allNames, Ended, added, addedTo, madeOf, Few, madeLiterals, madeBytes};
 
 // What may stand in a slot: the terms x of left and y of right, the node's label L, and M, the label for the negation of right.
 const X: u8 = 0;
@@ -17,22 +17,25 @@ const L: u8 = 2;
 
 const M: u8 = 3;
 
-// A row for each rule: heads, positives, negatives, and which term in which slot; an unused slot holds 0.
+// An unused slot: behind the four terms stands 0.
+const NONE: u8 = 4;
+
+// A row for each rule: heads, positives, negatives, and which term in which slot.
 const SHAPES: [[u8; 6]; 14] = [
-    [1, 0, 1, L, X, 0],
-    [0, 2, 0, L, X, 0],
-    [1, 1, 0, X, L, 0],
-    [1, 1, 0, Y, L, 0],
+    [1, 0, 1, L, X, NONE],
+    [0, 2, 0, L, X, NONE],
+    [1, 1, 0, X, L, NONE],
+    [1, 1, 0, Y, L, NONE],
     [1, 2, 0, L, X, Y],
-    [1, 1, 0, L, X, 0],
-    [1, 1, 0, L, Y, 0],
+    [1, 1, 0, L, X, NONE],
+    [1, 1, 0, L, Y, NONE],
     [2, 1, 0, X, Y, L],
     [1, 2, 0, Y, L, X],
-    [1, 0, 1, L, X, 0],
-    [1, 1, 0, L, Y, 0],
+    [1, 0, 1, L, X, NONE],
+    [1, 1, 0, L, Y, NONE],
     [3, 0, 0, X, M, L],
-    [1, 0, 1, M, Y, 0],
-    [0, 2, 0, M, Y, 0],
+    [1, 0, 1, M, Y, NONE],
+    [0, 2, 0, M, Y, NONE],
 ];
 
 // Of each kind its first row, its number of rows, its number of labels and its rows' number of literals.
@@ -113,7 +116,7 @@ fn add_slots(
     literals: Literals,
     removing: usize,
     shape: &[u8; 6],
-    terms: &[usize; 4],
+    terms: &[usize; 5],
     start: usize,
     count: usize,
 ) -> Literals
@@ -131,38 +134,25 @@ fn add_slots(
 }
 
 // Are the terms of x, y, L and M all names?
-pub fn all_names(terms: &[usize; 4]) -> bool
+pub fn all_names(terms: &[usize; 5]) -> bool
     ensures { λ r. ⌜ r ≡ allNames (now (terms .entry)) ⌝ }
 {
     terms[0] < FALSE && (terms[1] < FALSE && (terms[2] < FALSE && terms[3] < FALSE))
 }
 
-// What stands in slot j of a rule of a shape that uses so many slots, where every term is a name.
-fn name_in(shape: &[u8; 6], terms: &[usize; 4], used: usize, j: usize) -> usize
-    requires { ⌜ (j < 3) × Named (now shape) ⌝ }
-    ensures { λ r. ⌜ r ≡ nameIn (now (shape .entry)) (now (terms .entry)) used j ⌝ }
-{
-    if j < used {
-        terms[shape[3 + j] as usize]
-    } else {
-        0
-    }
-}
-
 // The rule of a shape, where the terms of x, y, L and M are all names: it stays with all its literals.
-fn make_of_names(shape: &[u8; 6], terms: &[usize; 4]) -> Made
-    requires { ⌜ Fillable (now shape) ⌝ }
+fn make_of_names(shape: &[u8; 6], terms: &[usize; 5]) -> Made
+    requires { ⌜ Fillable (now shape) × Ended (now terms) ⌝ }
     requires { ⌜ allNames (now terms) ≡ true ⌝ }
     ensures { λ r. ⌜ r ≡ madeOf (ruleIn (now (shape .entry)) (now (terms .entry))) ⌝ }
 {
     let heads = shape[0] as usize;
     let positives = shape[1] as usize;
     let negatives = shape[2] as usize;
-    let used = heads + positives + negatives;
     let slots = [
-        name_in(shape, terms, used, 0),
-        name_in(shape, terms, used, 1),
-        name_in(shape, terms, used, 2),
+        terms[shape[3] as usize],
+        terms[shape[4] as usize],
+        terms[shape[5] as usize],
     ];
     Made {
         kept: true,
@@ -174,7 +164,7 @@ fn make_of_names(shape: &[u8; 6], terms: &[usize; 4]) -> Made
 }
 
 // The rule of a shape, its literals added one by one, whatever the terms.
-fn make_of_terms(shape: &[u8; 6], terms: &[usize; 4]) -> Made
+fn make_of_terms(shape: &[u8; 6], terms: &[usize; 5]) -> Made
     requires { ⌜ Fillable (now shape) ⌝ }
     ensures { λ r. ⌜ r ≡ madeOf (ruleIn (now (shape .entry)) (now (terms .entry))) ⌝ }
 {
@@ -206,8 +196,8 @@ fn make_of_terms(shape: &[u8; 6], terms: &[usize; 4]) -> Made
 }
 
 // The rule of a shape, where x, y, L and M have these terms, by the straight way where no constant is among them.
-pub fn make(shape: &[u8; 6], terms: &[usize; 4]) -> Made
-    requires { ⌜ Fillable (now shape) ⌝ }
+pub fn make(shape: &[u8; 6], terms: &[usize; 5]) -> Made
+    requires { ⌜ Fillable (now shape) × Ended (now terms) ⌝ }
     ensures { λ r. ⌜ r ≡ madeOf (ruleIn (now (shape .entry)) (now (terms .entry))) ⌝ }
 {
     if all_names(terms) {

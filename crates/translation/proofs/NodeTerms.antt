@@ -144,10 +144,10 @@ module _ (A : ℕ) (s : List ℕ) (N : ℕ) (ok : Nodes A s N) (scratch : List �
 
 -- The terms that fill a node's slots.
 filled-fill : (a b next : ℕ) (left right : Term) → decode a ≡ left → decode b ≡ right → suc next < falseTerm
-    → filled (a ∷ b ∷ next ∷ (next + 1) ∷ []) ≡ fill left right next
+    → filled (a ∷ b ∷ next ∷ (next + 1) ∷ 0 ∷ []) ≡ fill left right next
 filled-fill a b next left right e f h = fun-ext each
   where
-    each : (i : Slot) → filled (a ∷ b ∷ next ∷ (next + 1) ∷ []) i ≡ fill left right next i
+    each : (i : Slot) → filled (a ∷ b ∷ next ∷ (next + 1) ∷ 0 ∷ []) i ≡ fill left right next i
     each x = e
     each y = f
     each L = decode-code (name next) (omega arith)

@@ -36,13 +36,7 @@ pub turn-made : {done old out : List ℕ} {at : ℕ} → Written done old out at
     → Written (done ++ more) old (putMid at (length out - at) out back) (at + n)
 turn-made {out = out} {at = at} w {more = more} same fits e b = turn w more fits (e ∙ ap length same) (b ∙ ap (λ l. over l (take (length out - at) (drop at out))) same)
 
--- Where a writer stands that left the first n bytes for later,
-pub written-past : (n : ℕ) (old : List ℕ) → n ≤ length old → Written (take n old) old old n
-written-past n old h =
-    let e : length (take n old) ≡ n = length-take-le n old h in
-    record { bytes = rw e (sym (take-append-drop n old)); end = sym e; long = refl }
-
--- and then writes them.
+-- The first bytes, which a writer left for later, are written last.
 pub over-last : (head body old out : List ℕ) → length head ≤ length old → out ≡ over (take (length head) old ++ body) old → over head out ≡ over (head ++ body) old
 over-last head body old out h e =
     let n = length head in

@@ -64,9 +64,9 @@ pairsTo s = upTo (λ j. pairRule (pairIn s j))
 abbrev pub scratchTerm : (scratch : List ℕ) → ℕ → Term
 scratchTerm scratch k = decode (getD scratch k 0)
 
--- The numbers of x, y, L and M of a node whose labels start at `next`, where the terms' numbers stand in a scratch.
+-- The numbers of x, y, L and M of a node whose labels start at `next`, where the terms' numbers stand in a scratch, and behind them 0.
 abbrev pub slotTerms : (scratch : List ℕ) → (next : ℕ) → Node → List ℕ
-slotTerms scratch next n = getD scratch (n .left) 0 ∷ getD scratch (n .right) 0 ∷ next ∷ (next + 1) ∷ []
+slotTerms scratch next n = getD scratch (n .left) 0 ∷ getD scratch (n .right) 0 ∷ next ∷ (next + 1) ∷ 0 ∷ []
 
 -- The rules of a kind where x, y, L and M have these numbers,
 abbrev pub kindRules : (terms : List ℕ) → (kind : ℕ) → List Rule

@@ -18,7 +18,7 @@ ghost use Rattle.program.specs.Image.{rulesBytes, imageOf};
 ghost use Rattle.flat.specs.Flat.{termOf, flat};
 ghost use Rattle.flat.specs.Extension.{extend as extension};
 ghost use Rattle.table.specs.Shapes.{KindIn};
-ghost use Rattle.table.specs.OneRule.{code};
+ghost use Rattle.table.specs.OneRule.{code, Ended};
 ghost use Rattle.translation.specs.Turns.{Nodes, Roots, nextTo, rulesTo, factsTo, pairsTo, scratchTerm, slotTerms, kindRules, Counted, NumberedTo, Numbered, labelsTo};
 ghost use Rattle.translation.specs.Outcome.{sizeOf, ruleTotal, translateRows, translated, extendRows, extended};
 
@@ -92,8 +92,8 @@ fn term_of(kind: usize, left: usize, next: usize) -> usize
     }
 }
 
-// The terms of x, y, L and M of node k, whose labels start at `next`.
-fn slot_terms(nodes: &[u8], k: usize, terms: &[u16; refusal::MOST_NODES], next: usize) -> [usize; 4]
+// The terms of x, y, L and M of node k, whose labels start at `next`, and the 0 behind them.
+fn slot_terms(nodes: &[u8], k: usize, terms: &[u16; refusal::MOST_NODES], next: usize) -> [usize; 5]
     requires { ⌜ (k * 6 + 6 ≤ length (now nodes)) × (nodeIn (now nodes) k .left < mostNodes) × (nodeIn (now nodes) k .right < mostNodes) × (next < 65536) ⌝ }
     ensures { λ r. ⌜ r ≡ slotTerms (now (terms .entry)) next (nodeIn (now (nodes .entry)) k) ⌝ }
 {
@@ -104,17 +104,19 @@ fn slot_terms(nodes: &[u8], k: usize, terms: &[u16; refusal::MOST_NODES], next: 
         wide_term(terms[right]),
         next,
         next + 1,
+        0,
     ]
 }
 
 // Counts the rules of a node of a kind, where x, y, L and M have these terms: without constants, the kind's rows.
+// Only the other way reads terms by index, and it has a copy, so that here they need no memory.
 fn count_node(
     table: &[[u8; 6]; 14],
     index: &[[u8; 4]; 7],
     kind: usize,
-    terms: &[usize; 4],
+    terms: &[usize; 5],
 ) -> Counts
-    requires { ⌜ KindIn (now table) (now index) kind ⌝ }
+    requires { ⌜ KindIn (now table) (now index) kind × Ended (now terms) ⌝ }
     ensures { λ r. ⌜ Counted (kindRules (now (terms .entry)) kind) (r .rules) (r .literals) ⌝ }
 {
     if table::all_names(terms) {
@@ -123,7 +125,8 @@ fn count_node(
             literals: index[kind][3] as usize,
         };
     }
-    count_rows(table, index, kind, terms)
+    let own = *terms;
+    count_rows(table, index, kind, &own)
 }
 
 // Counts the rules that stay of its kind's rows, whatever the terms.
@@ -131,9 +134,9 @@ fn count_rows(
     table: &[[u8; 6]; 14],
     index: &[[u8; 4]; 7],
     kind: usize,
-    terms: &[usize; 4],
+    terms: &[usize; 5],
 ) -> Counts
-    requires { ⌜ KindIn (now table) (now index) kind ⌝ }
+    requires { ⌜ KindIn (now table) (now index) kind × Ended (now terms) ⌝ }
     ensures { λ r. ⌜ Counted (kindRules (now (terms .entry)) kind) (r .rules) (r .literals) ⌝ }
 {
     let first = index[kind][0] as usize;
@@ -209,9 +212,9 @@ fn write_node(
     table: &[[u8; 6]; 14],
     index: &[[u8; 4]; 7],
     kind: usize,
-    terms: &[usize; 4],
+    terms: &[usize; 5],
 ) -> usize
-    requires { ⌜ KindIn (now table) (now index) kind × (length (rulesBytes packed (kindRules (now terms) kind)) ≤ length (now out)) ⌝ }
+    requires { ⌜ KindIn (now table) (now index) kind × (length (rulesBytes packed (kindRules (now terms) kind)) ≤ length (now out)) × Ended (now terms) ⌝ }
     ensures { λ r. ⌜ r ≡ length (rulesBytes packed (kindRules (now (terms .entry)) kind)) ⌝ }
     ensures { λ _. ⌜ now (out .exit) ≡ over (rulesBytes packed (kindRules (now (terms .entry)) kind)) (now (out .entry)) ⌝ }
 {

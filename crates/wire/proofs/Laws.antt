@@ -6,8 +6,8 @@ use Prim.Native.Nat.{ℕ, zero, suc, _+_, _-_, _*_, _/_, _%_, _≤_, _<_}
 use native.Mathlib.Numerals.{add-one}
 use native.Mathlib.Omega.{arith}
 use lib.Dec.{ltb}
-use lib.ListN.{length, getD, take, drop, set, length-append, length-drop, length-take}
-use lib.Seq.{take-all, take-length, drop-length, take-append-seam, drop-append-seam, drop-drop, drop-cons, set-at, append-snoc, getD-append-add}
+use lib.ListN.{length, getD, take, drop, set, length-append, length-drop, length-take, take-append-drop}
+use lib.Seq.{take-all, take-length, length-take-le, drop-length, take-append-seam, drop-append-seam, drop-drop, drop-cons, set-at, append-snoc, getD-append-add}
 use borrow.Author.Tests.{lt-ltb, ltb-true}
 use borrow.Rule.Slice.PartMut.{putMid}
 use Rattle.wire.specs.Wire.{u16At, u32At, u16Bytes, u32Bytes, Bytes, allBelow, over}
@@ -89,6 +89,12 @@ pub record Written (done old out : List ℕ) (at : ℕ) : Type 0 where
 
 pub written-none : (old : List ℕ) → Written [] old old 0
 written-none old = record { bytes = refl; end = refl; long = refl }
+
+-- One that left the first n bytes for later.
+pub written-past : (n : ℕ) (old : List ℕ) → n ≤ length old → Written (take n old) old old n
+written-past n old h =
+    let e : length (take n old) ≡ n = length-take-le n old h in
+    record { bytes = rw e (sym (take-append-drop n old)); end = sym e; long = refl }
 
 -- What the rest is as it is lent, and what the whole is when the rest comes back.
 module _ (done rest : List ℕ) where

@@ -27,8 +27,8 @@ add-slot c = search needs
 element-copy-out-slot : tie.Need-element-copy-out-slot Inv-loop μ-loop
 element-copy-out-slot c = search needs
 
--- the slot names one of the four terms
-named : (c : tie.In-loop Inv-loop μ-loop) → getD (now (c .before .before .args .shape)) (c .before .before .args .start + c .before .loop .j) 0 < 4
+-- the slot names one of the terms
+named : (c : tie.In-loop Inv-loop μ-loop) → getD (now (c .before .before .args .shape)) (c .before .before .args .start + c .before .loop .j) 0 < 5
 named c = c .before .before .pre .2 _ (omega arith)
 
 cast-slot : tie.Need-cast-slot Inv-loop μ-loop

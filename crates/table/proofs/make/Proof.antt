@@ -14,7 +14,7 @@ returns : tie.Need-returns
 returns c = search needs
 
 make-of-terms-requires : tie.Need-make-of-terms-requires
-make-of-terms-requires c κs = search needs
+make-of-terms-requires c κs = c .before .before .pre .0
 
 returns-2 : tie.Need-returns-2
 returns-2 c = search needs

@@ -19,33 +19,33 @@ names : (c : tie.Then1) → let start = c .before .before in let row = getD (now
     Counted (kindRules (now (start .args .terms)) (start .args .kind)) (getD row 1 0) (getD row 3 0)
 names c =
     let start = c .before .before in
-    rw (start .pre .counts) (counted-names (now (start .args .terms)) (sym (c .before .all-names .ensures) ∙ c .if1 .taken) (start .args .kind) (start .pre .known))
+    rw (start .pre .0 .counts) (counted-names (now (start .args .terms)) (sym (c .before .all-names .ensures) ∙ c .if1 .taken) (start .args .kind) (start .pre .0 .known))
 
-mul-t6 : tie.Need-mul-t6
-mul-t6 c = search needs
+mul-t7 : tie.Need-mul-t7
+mul-t7 c = search needs
 
-index-1-t11 : tie.Need-index-1-t11
-index-1-t11 c = search needs
+index-1-t12 : tie.Need-index-1-t12
+index-1-t12 c = search needs
 
-index-2-t11 : tie.Need-index-2-t11
-index-2-t11 c = search needs
+index-2-t12 : tie.Need-index-2-t12
+index-2-t12 c = search needs
 
-cast-t12 : tie.Need-cast-t12
-cast-t12 c = omega (arith, kind-within _ _ _ (c .before .before .before .pre))
+cast-t13 : tie.Need-cast-t13
+cast-t13 c = omega (arith, kind-within _ _ _ (c .before .before .before .pre .0))
 
-mul-t13 : tie.Need-mul-t13
-mul-t13 c = search needs
+mul-t14 : tie.Need-mul-t14
+mul-t14 c = search needs
 
-index-1-t18 : tie.Need-index-1-t18
-index-1-t18 c = search needs
+index-1-t19 : tie.Need-index-1-t19
+index-1-t19 c = search needs
 
-index-2-t18 : tie.Need-index-2-t18
-index-2-t18 c = search needs
+index-2-t19 : tie.Need-index-2-t19
+index-2-t19 c = search needs
 
-cast-t19 : tie.Need-cast-t19
-cast-t19 c =
+cast-t20 : tie.Need-cast-t20
+cast-t20 c =
     let named = c .before .before in
-    omega (arith, kind-within _ _ _ (named .before .before .pre), names named .few)
+    omega (arith, kind-within _ _ _ (named .before .before .pre .0), names named .few)
 
 returns : tie.Need-returns
 returns c = names (c .before .before)
@@ -61,14 +61,14 @@ count-node-spec =
     tie.close
     (tie.spec
     all-names-requires
-    mul-t6
-    index-1-t11
-    index-2-t11
-    cast-t12
-    mul-t13
-    index-1-t18
-    index-2-t18
-    cast-t19
+    mul-t7
+    index-1-t12
+    index-2-t12
+    cast-t13
+    mul-t14
+    index-1-t19
+    index-2-t19
+    cast-t20
     returns
     count-rows-requires
     returns-2)

@@ -33,7 +33,7 @@ index-2-first : tie.Need-index-2-first Inv-loop μ-loop
 index-2-first c = search needs
 
 cast-first : tie.Need-cast-first Inv-loop μ-loop
-cast-first c = omega (arith, kind-within _ _ _ (c .before .pre))
+cast-first c = omega (arith, kind-within _ _ _ (c .before .pre .0))
 
 mul-count : tie.Need-mul-count Inv-loop μ-loop
 mul-count c = search needs
@@ -45,7 +45,7 @@ index-2-count : tie.Need-index-2-count Inv-loop μ-loop
 index-2-count c = search needs
 
 cast-count : tie.Need-cast-count Inv-loop μ-loop
-cast-count c = omega (arith, kind-within _ _ _ (c .before .before .pre))
+cast-count c = omega (arith, kind-within _ _ _ (c .before .before .pre .0))
 
 loop-holds : tie.Need-loop-holds Inv-loop μ-loop
 loop-holds c = (counted-none (rowsTo-none _ _), search needs, search needs)
@@ -55,7 +55,7 @@ within : (c : tie.In-loop Inv-loop μ-loop) → let start = c .before .before .b
     getD (getD (now (start .args .index)) (start .args .kind) []) 0 0 + c .before .loop .j < 14
 within c =
     let start = c .before .before .before .before in
-    row-within (now (start .args .table)) (now (start .args .index)) (start .args .kind) (start .pre) (c .before .loop .j) (c .loop-test .taken)
+    row-within (now (start .args .table)) (now (start .args .index)) (start .args .kind) (start .pre .0) (c .before .loop .j) (c .loop-test .taken)
 
 add-make : tie.Need-add-make Inv-loop μ-loop
 add-make c = omega (arith, within c)
@@ -71,10 +71,10 @@ good : (c : tie.In-loop Inv-loop μ-loop) → let start = c .before .before .bef
     Fillable (getD (now (start .args .table)) (getD (getD (now (start .args .index)) (start .args .kind) []) 0 0 + c .before .loop .j) [])
 good c =
     let start = c .before .before .before .before in
-    row-fillable (now (start .args .table)) (now (start .args .index)) (start .args .kind) (start .pre) (c .before .loop .j) (c .loop-test .taken)
+    row-fillable (now (start .args .table)) (now (start .args .index)) (start .args .kind) (start .pre .0) (c .before .loop .j) (c .loop-test .taken)
 
 make-requires : tie.Need-make-requires Inv-loop μ-loop
-make-requires c κs = good (c .before)
+make-requires c κs = (good (c .before), c .before .before .before .before .before .pre .1)
 
 stays-requires : tie.Need-stays-requires Inv-loop μ-loop
 stays-requires c κs = search needs
@@ -92,7 +92,7 @@ counted c =
     let turn = c .before .before .before .before in
     let start = turn .before .before .before .before in
     let made = c .before .before .make .ensures in
-    let row = row-read (now (start .args .table)) (now (start .args .index)) (start .args .kind) (start .pre) (turn .before .loop .j) (turn .loop-test .taken) in
+    let row = row-read (now (start .args .table)) (now (start .args .index)) (start .args .kind) (start .pre .0) (turn .before .loop .j) (turn .loop-test .taken) in
     rw (← row, c .before .stays .ensures .0, c .literals-of .ensures .0, made) (counted-made _ (ruleIn-few _ (now (start .args .terms)) (good turn)))
 
 add-literals : tie.Need-add-literals Inv-loop μ-loop
@@ -110,8 +110,8 @@ loop-again c = (counted-more (c .before .before .before .before .before .loop .i
 returns : tie.Need-returns Inv-loop μ-loop
 returns c =
     let start = c .before .before .before .before in
-    let e : c .before .loop .j ≡ rowCount (start .args .kind) = omega (arith, ap (λ (l : List (List ℕ)). getD (getD l (start .args .kind) []) 1 0) (start .pre .counts)) in
-    rw (e, rowsTo-all (now (start .args .terms)) (start .args .kind) (start .pre .known)) at (c .before .loop .inv .0)
+    let e : c .before .loop .j ≡ rowCount (start .args .kind) = omega (arith, ap (λ (l : List (List ℕ)). getD (getD l (start .args .kind) []) 1 0) (start .pre .0 .counts)) in
+    rw (e, rowsTo-all (now (start .args .terms)) (start .args .kind) (start .pre .0 .known)) at (c .before .loop .inv .0)
 
 pub count-rows-spec : {M : Type 1} → statement M
 count-rows-spec =

@@ -1,10 +1,10 @@
 -- `measure` numbers and counts in one pass: before each turn the scratch begins with the numbers of the terms of the nodes passed, `next` is the label behind theirs, and their rules are counted. Assumes nothing.
 use mathlib.Core.Path.{_≡_, refl, sym, ap, _∙_}
-use mathlib.Core.List.{map-append}
-use Prim.Native.Nat.{_+_, _-_, _*_, _≤_}
+use mathlib.Core.List.{List, map-append}
+use Prim.Native.Nat.{ℕ, _+_, _-_, _*_, _≤_}
 use native.Mathlib.Numerals.{add-one}
 use native.Mathlib.Omega.{arith}
-use lib.ListN.{length, set}
+use lib.ListN.{length, getD, set}
 use lib.Seq.{take-suc-set}
 use denote.Ref.{now}
 use borrow.Author.Needs.{needs}
@@ -97,7 +97,7 @@ count-node-requires : tie.Need-count-node-requires Inv-loop μ-loop
 count-node-requires c κs =
     let kind = to-kind c in
     let tables = kind .before .before .before in
-    record { rows = tables .before .shapes .ensures; counts = tables .kinds .ensures; known = known kind .row }
+    (record { rows = tables .before .shapes .ensures; counts = tables .kinds .ensures; known = known kind .row }, ap (λ (l : List ℕ). getD l 4 0) (c .before .before .before .slot-terms .ensures))
 
 -- what is counted are the node's rules, six at most
 counted : (c : tie.After-count-node Inv-loop μ-loop) → let loop = to-kind (c .before) .before .before in let start = to-start loop in

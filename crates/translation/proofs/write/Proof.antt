@@ -5,14 +5,14 @@ use native.Mathlib.Omega.{arith}
 use lib.ListN.{length, take}
 use denote.Ref.{now}
 use lib.Seq.{length-take-le}
-use Rattle.wire.proofs.Laws.{turn-room, turn}
+use Rattle.wire.proofs.Laws.{turn-room, turn, written-past}
 use Rattle.theory.specs.Image.{atomCount, bookOf}
 use Rattle.theory.proofs.Accepted.{accepted}
 use Rattle.program.specs.Image.{header, rulesBytes, imageOf}
 use Rattle.program.proofs.Lengths.{length-header, length-imageOf}
 use Rattle.flat.specs.Flat.{flat}
 use Rattle.translation.specs.Outcome.{sizeOf, ruleTotal}
-use Rattle.translation.proofs.Writing.{written-past, over-last}
+use Rattle.translation.proofs.Writing.{over-last}
 use borrow.Author.Needs.{needs}
 use Rattle.translation.proofs.write.Statement.{statement}
 use Rattle.translation.proofs.write.Tie as tie

@@ -86,7 +86,7 @@ index-1-make : tie.Need-index-1-make Inv-loop μ-loop
 index-1-make c = within c
 
 make-requires : tie.Need-make-requires Inv-loop μ-loop
-make-requires c κs = good (c .before)
+make-requires c κs = (good (c .before), c .before .before .before .before .before .before .pre .2)
 
 -- what was made has few literals, and is the row's rule
 few : (c : tie.After-make Inv-loop μ-loop) → let turn = c .before .before in let start = turn .before .before .before .before .before in

@@ -1,9 +1,9 @@
 -- `write_nodes` writes the rules of all nodes: before each turn those of the nodes passed are written, and the next node's go into the unwritten rest. Assumes nothing.
-use mathlib.Core.Path.{_≡_, sym}
+use mathlib.Core.Path.{_≡_, sym, ap}
 use mathlib.Core.List.{List}
 use Prim.Native.Nat.{ℕ, _+_, _-_, _≤_}
 use native.Mathlib.Omega.{arith}
-use lib.ListN.{length}
+use lib.ListN.{length, getD}
 use denote.Ref.{now}
 use borrow.Author.Needs.{needs}
 use Rattle.wire.proofs.Laws.{Written, turn-room, turn}
@@ -87,7 +87,7 @@ write-node-requires c κs =
     let terms = c .before .before .before .before in
     let turn = terms .before .before in
     let tables = turn .before .before in
-    (record { rows = tables .before .shapes .ensures; counts = tables .kinds .ensures; known = omega (arith, known (terms .before)) }, rw (← rules-are terms) at (turn-room (turn .before .loop .inv .0) (fits turn)))
+    (record { rows = tables .before .shapes .ensures; counts = tables .kinds .ensures; known = omega (arith, known (terms .before)) }, rw (← rules-are terms) at (turn-room (turn .before .loop .inv .0) (fits turn)), ap (λ (l : List ℕ). getD l 4 0) (terms .slot-terms .ensures))
 
 add-at : tie.Need-add-at Inv-loop μ-loop
 add-at c =
