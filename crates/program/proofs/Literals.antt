@@ -1,5 +1,5 @@
 -- Whether a rule holds, literal by literal: a part of its body is at most its head exactly if one of its literals is, where the head is not 2. Assumes nothing.
-use mathlib.Core.Path.{_≡_, refl, sym, ap, _∙_}
+use mathlib.Core.Path.{_≡_, refl, sym}
 use mathlib.Core.Logic.{⊎-elim}
 use mathlib.Core.Bool.{Bool, true, false, _||_, or-assoc, or-true, Bool·beq}
 use mathlib.Core.List.{List, [], _∷_, _++_}

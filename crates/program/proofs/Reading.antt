@@ -21,7 +21,7 @@ use Rattle.program.specs.Program.{Program}
 use Rattle.program.specs.Image.{atomCount, sizeOf, ruleCount, isPacked, totalOf, headerLength, ruleSection, mostLiterals, slotCount, slotAt, ruleAt, lengthAt, behind, rulesIn, slotKeeps, ruleKeeps, programOf, literals, literalTotal, slotBytes, ruleBytes, rulesBytes, header, imageOf}
 use Rattle.program.specs.Rows.{outside, totalKeeps, programRows}
 use Rattle.program.specs.Writable.{ruleWritable, rulesWritable, writable}
-use Rattle.program.proofs.Lengths.{length-countedBytes, literals-counted, length-rulesBytes, length-header, length-imageOf}
+use Rattle.program.proofs.Lengths.{length-countedBytes, literals-counted, length-rulesBytes, length-imageOf}
 use Rattle.program.proofs.Slots.{slotsKeep-each, slotBytes-at, take-getD}
 use Rattle.program.proofs.Accepted.{Inside, outside-false, Whole, slots-enough, programRows-none}
 

@@ -1,21 +1,21 @@
 -- Writing what was read gives the same bytes: each number is written to the bytes it was read from, and an unused slot is 0 in both. Assumes nothing.
 use mathlib.Core.Path.{_≡_, refl, sym, ap, ap₂, _∙_}
-use mathlib.Core.Bool.{Bool, true, false, cond}
+use mathlib.Core.Bool.{Bool, true, cond}
 use mathlib.Core.List.{List, [], _∷_, _++_, append-assoc, append-nil}
 use Prim.Native.Nat.{ℕ, zero, suc, _+_, _*_, _≤_, _<_}
 use native.Mathlib.Nat.{zero-add}
 use native.Mathlib.Omega.{arith}
 use lib.Dec.{eqb, ltb}
-use lib.ListN.{length, getD, take, drop, length-append, length-drop, take-append-drop, List·getD-eq-default}
+use lib.ListN.{length, getD, take, drop, length-drop, take-append-drop, List·getD-eq-default}
 use lib.Seq.{take-add, getD-drop}
-use borrow.Author.Tests.{ltb-true, ltb-false, eqb-true, eqb-false}
+use borrow.Author.Tests.{ltb-true, ltb-false}
 use Rattle.refusal.specs.Table.{none}
 use Rattle.refusal.proofs.Table.{cases}
 use Rattle.wire.specs.Wire.{u16At, u16Bytes, u32Bytes, Bytes}
 use Rattle.wire.specs.Sequence.{upTo}
 use Rattle.wire.proofs.Laws.{u16Bytes-u16At, u32Bytes-u32At}
 use Rattle.wire.proofs.Sequence.{length-upTo, getD-upTo, upTo-equal, upTo-append}
-use Rattle.program.specs.Image.{atomCount, sizeOf, ruleCount, isPacked, headerLength, ruleSection, slotCount, usedAt, slotAt, slotsFrom, ruleAt, lengthAt, behind, rulesIn, slotKeeps, programOf, literals, slotBytes, countedBytes, ruleBytes, rulesBytes, header, imageOf}
+use Rattle.program.specs.Image.{atomCount, sizeOf, ruleCount, isPacked, headerLength, ruleSection, slotCount, usedAt, slotAt, slotsFrom, ruleAt, lengthAt, behind, rulesIn, programOf, literals, ruleBytes, rulesBytes, header, imageOf}
 use Rattle.program.specs.Rows.{programRows}
 use Rattle.program.proofs.Lengths.{rulesBytes-more}
 use Rattle.program.proofs.Slots.{take-getD, slotBytes-read}

@@ -1,10 +1,10 @@
 -- What a writer of rules needs of a list of rules that grows by a part at each turn: the bytes grow by the part's, and there is room for them. Assumes nothing.
-use mathlib.Core.Path.{_≡_, refl, sym, ap, _∙_}
+use mathlib.Core.Path.{_≡_, refl, ap, _∙_}
 use mathlib.Core.Bool.{Bool, true, false}
 use mathlib.Core.List.{List, [], _∷_, _++_, append-assoc}
 use Prim.Native.Nat.{ℕ, _+_, _-_, _≤_, _<_}
 use native.Mathlib.Omega.{arith}
-use lib.ListN.{length, take, drop, length-append, take-append-drop}
+use lib.ListN.{length, take, drop, length-append}
 use lib.Seq.{length-take-le, drop-at}
 use borrow.Rule.Slice.PartMut.{putMid}
 use Rattle.wire.specs.Wire.{over}

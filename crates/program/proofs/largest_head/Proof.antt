@@ -5,7 +5,7 @@ use native.Mathlib.Nat.{zero-add}
 use native.Mathlib.Omega.{arith}
 use denote.Ref.{now}
 use Rattle.wire.specs.Sequence.{upTo}
-use Rattle.wire.proofs.Sequence.{upTo-none, upTo-more}
+use Rattle.wire.proofs.Sequence.{upTo-more}
 use Rattle.logic.specs.Value.{larger}
 use Rattle.logic.specs.Formula.{readingOf, valueOf}
 use Rattle.program.specs.Rule.{largest}

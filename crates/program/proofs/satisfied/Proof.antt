@@ -13,7 +13,7 @@ use Rattle.wire.proofs.Sequence.{upTo-none}
 use Rattle.logic.specs.declared.Value.{Value}
 use Rattle.logic.specs.Formula.{readingOf, valueOf}
 use Rattle.program.specs.Rule.{Rule, holds, allHold}
-use Rattle.program.specs.Image.{sizeOf, ruleCount, isPacked, headerLength, ruleSection, ruleLength, usedAt, ruleAt, behind, rulesIn, programOf}
+use Rattle.program.specs.Image.{sizeOf, ruleCount, isPacked, headerLength, ruleSection, usedAt, ruleAt, behind, rulesIn, programOf}
 use Rattle.program.proofs.Rules.{allHold-more, allHold-broken}
 use Rattle.program.proofs.Accepted.{Accepted, none-programRows, Kept, kept-named}
 use Rattle.program.proofs.Walk.{Walk, walk-start, walk-kept, walk-on}

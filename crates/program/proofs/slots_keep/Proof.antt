@@ -1,5 +1,5 @@
 -- `slots_keep` gives the tests of all slots, those in use of the packed form or the three of the fixed form, of which it stops at the first that fails. Assumes nothing.
-use mathlib.Core.Path.{_≡_, sym, _∙_}
+use mathlib.Core.Path.{_≡_}
 use Prim.Native.Nat.{_≤_}
 use native.Mathlib.Omega.{arith}
 use lib.ListN.{length}
