@@ -28,7 +28,7 @@ joined e f = rw (e, f)
 -- ---- a rule
 
 -- The slots from the first on.
-pub slots-first : (s : List ℕ) (n : ℕ) → slotsFrom s 0 n ≡ upTo (slotAt s) n
+slots-first : (s : List ℕ) (n : ℕ) → slotsFrom s 0 n ≡ upTo (slotAt s) n
 slots-first s n = upTo-equal (λ j. slotAt s (0 + j)) (slotAt s) n (λ j l. ap (slotAt s) (zero-add j))
 
 -- The literals of the rule at the start stand in its slots, one behind the other.
