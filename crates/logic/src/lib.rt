@@ -1,9 +1,11 @@
 //! The three values of the logic of here-and-there as one type, with their four operations.
+#![tactic(auto)]
+
 ghost use Rattle.std.specs.Prelude.{◌≡◌};
 ghost use Rattle.logic.specs.Value.{number, of_byte, smaller, larger, negation, implication};
 
 // What a formula is worth under a reading: true in neither world, only there, or in both.
-#[derive(Drop)]
+#[derive(Clone, Copy)]
 pub enum Value {
     Neither,
     There,

@@ -1,4 +1,6 @@
 //! The program image in its two forms: flat rules as bytes.
+#![tactic(auto)]
+
 ghost use Rattle.std.specs.Prelude.{◌≡◌, true, false, cond, ◌∷◌, ◌+◌, ◌*◌, ◌≤◌, ◌<◌, leb, ltb, length};
 ghost use Rattle.refusal.specs.Limits.{most_b};
 ghost use Rattle.refusal.specs.Table.{answer, none};

@@ -1,4 +1,6 @@
 //! The answer of every public call, and the refusals that are about a call's arguments and not about an image.
+#![tactic(auto)]
+
 ghost use Rattle.std.specs.Prelude.{◌≡◌};
 ghost use Rattle.refusal.specs.Table.{refused, accepted, answer};
 ghost use Rattle.refusal.specs.Rows.{wrong, argument_rows, reading_rows, candidate_rows, count_true};
@@ -22,7 +24,7 @@ pub const MOST_LISTED: usize = 12;
 
 // A refusal number (0 when accepted), a place and a result.
 #[repr(C)]
-#[derive(Drop)]
+#[derive(Clone, Copy)]
 pub struct Answer {
     pub number: u32,
     pub place: usize,

@@ -1,4 +1,6 @@
 //! The public calls. Each takes any bytes in every slice, trusts no earlier check, and has no `requires`.
+#![tactic(auto)]
+
 ghost use Rattle.std.specs.Prelude.{◌≡◌};
 ghost use Rattle.refusal.specs.Table.{yes};
 ghost use Rattle.rulebook.specs.Calls.{ChecksTheory, EvaluatesTheory, Translates, ExtendsReading, TestsTheory, ListsSets, ChecksProgram, EvaluatesProgram, TestsProgram};

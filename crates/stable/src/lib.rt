@@ -1,4 +1,6 @@
 //! The candidate test of either image, and the listing of a small theory's answer sets.
+#![tactic(auto)]
+
 ghost use Rattle.std.specs.Prelude.{◌≡◌, true, ℕ, ◌+◌, ◌*◌, ◌^◌, ◌≤◌, ◌<◌, length, take};
 ghost use Rattle.wire.specs.Wire.{over, all_below};
 ghost use Rattle.refusal.specs.Limits.{most_b, most_true};

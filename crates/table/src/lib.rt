@@ -1,4 +1,6 @@
 //! The rule table as the code has it, and one rule of it: its slots filled, its constants gone, its bytes written.
+#![tactic(auto)]
+
 ghost use Rattle.std.specs.Prelude.{◌≡◌, true, cond, ◌+◌, ◌≤◌, ◌<◌, length, get_or};
 ghost use Rattle.wire.specs.Wire.{over};
 ghost use Rattle.flat.specs.Flat.{fact};
@@ -65,7 +67,7 @@ pub const FALSE: usize = 65534;
 pub const TRUE: usize = 65535;
 
 // The literals of a rule that is being made: whether the rule stays, how many slots are used, and the slots.
-#[derive(Drop)]
+#[derive(Clone, Copy)]
 pub struct Literals {
     pub kept: bool,
     pub used: usize,
@@ -73,7 +75,7 @@ pub struct Literals {
 }
 
 // A rule with its constants gone: whether it stays, its counts and its slots.
-#[derive(Drop)]
+#[derive(Clone, Copy)]
 pub struct Made {
     pub kept: bool,
     pub heads: usize,

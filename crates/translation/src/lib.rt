@@ -1,4 +1,6 @@
 //! Measures and writes the flat program of a theory image, and writes the extension of a reading.
+#![tactic(auto)]
+
 ghost use Rattle.std.specs.Prelude.{◌≡◌, [], ◌∷◌, map, true, ℕ, ◌+◌, ◌*◌, ◌≤◌, ◌<◌, length, get_or, take};
 ghost use Rattle.refusal.specs.Limits.{most_nodes, most_rules};
 ghost use Rattle.refusal.specs.Table.{none, answer};
@@ -20,14 +22,14 @@ use logic::Value;
 use refusal::Answer;
 
 // How many rules there are, and how many literals they have.
-#[derive(Drop)]
+#[derive(Clone, Copy)]
 struct Counts {
     rules: usize,
     literals: usize,
 }
 
 // What is measured of the nodes: how many atoms and labels there are up to the last, and how many rules and literals.
-#[derive(Drop)]
+#[derive(Clone, Copy)]
 struct Totals {
     all: usize,
     rules: usize,

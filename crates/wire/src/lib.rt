@@ -1,4 +1,6 @@
 //! Numbers of two and four bytes in a slice, little-endian, and bytes written over the start of a slice.
+#![tactic(auto)]
+
 ghost use Rattle.std.specs.Prelude.{◌≡◌, ◌+◌, ◌≤◌, ◌<◌, length};
 ghost use Rattle.wire.specs.Wire.{u16_at, u32_at, u16_bytes, u32_bytes, over};
 
