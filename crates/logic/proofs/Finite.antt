@@ -17,7 +17,7 @@ pub every_at : (p : Value → Bool) → every p ≡ true → (v : Value) → p v
 every_at p h v =
     let h1 = &&_split (p Neither && p There) (p Both) h in
     let h2 = &&_split (p Neither) (p There) h1.0 in
-    elim v [ Neither ↦ h2.0 | There ↦ h2.1 | Both ↦ h1.1 ]
+    elim v as (λ k. p k ≡ true) [ Neither ↦ h2.0 | There ↦ h2.1 | Both ↦ h1.1 ]
 
 -- Two values are the same.
 abbrev pub same : Value → Value → Bool

@@ -13,7 +13,7 @@ use Rattle.logic.specs.Formula.{Formula, falsum, verum, atom, neg, conj, disj, i
 use Rattle.logic.specs.Atoms.{Atoms, inside, reading, here_of, there_of}
 use Rattle.logic.specs.HereAndThere.{World, here, there, every_from, truth, Model}
 use Rattle.logic.proofs.Bools.{beq_sound}
-use Rattle.logic.proofs.Finite.{agree₁, agree₂}
+use Rattle.logic.proofs.Finite.{every, agree₁, agree₂}
 use Rattle.logic.proofs.Values.{true_here_iff, true_there_iff}
 use Rattle.logic.proofs.Formulas.{satisfies-each}
 use Rattle.logic.proofs.Sets.{here_of-reading, there_of-reading}
@@ -24,17 +24,20 @@ at here v = true_here v
 at there v = true_there v
 
 at_smaller : (w : World) (u v : Value) → at w (smaller u v) ≡ (at w u && at w v)
-at_smaller w = agree₂ beq beq_sound (λ u v. at w (smaller u v)) (λ u v. at w u && at w v) (elim w [ here ↦ refl | there ↦ refl ])
+at_smaller w = agree₂ beq beq_sound (λ u v. at w (smaller u v)) (λ u v. at w u && at w v)
+    (elim w as (λ k. every (λ a. every (λ b. beq (at k (smaller a b)) (at k a && at k b))) ≡ true) [ here ↦ refl | there ↦ refl ])
 
 at_larger : (w : World) (u v : Value) → at w (larger u v) ≡ (at w u || at w v)
-at_larger w = agree₂ beq beq_sound (λ u v. at w (larger u v)) (λ u v. at w u || at w v) (elim w [ here ↦ refl | there ↦ refl ])
+at_larger w = agree₂ beq beq_sound (λ u v. at w (larger u v)) (λ u v. at w u || at w v)
+    (elim w as (λ k. every (λ a. every (λ b. beq (at k (larger a b)) (at k a || at k b))) ≡ true) [ here ↦ refl | there ↦ refl ])
 
 at_negation : (w : World) (u : Value) → at w (negation u) ≡ every_from w (λ x. not (at x u))
-at_negation w = agree₁ beq beq_sound (λ u. at w (negation u)) (λ u. every_from w (λ x. not (at x u))) (elim w [ here ↦ refl | there ↦ refl ])
+at_negation w = agree₁ beq beq_sound (λ u. at w (negation u)) (λ u. every_from w (λ x. not (at x u)))
+    (elim w as (λ k. every (λ a. beq (at k (negation a)) (every_from k (λ x. not (at x a)))) ≡ true) [ here ↦ refl | there ↦ refl ])
 
 at_implication : (w : World) (u v : Value) → at w (implication u v) ≡ every_from w (λ x. not (at x u) || at x v)
 at_implication w = agree₂ beq beq_sound (λ u v. at w (implication u v)) (λ u v. every_from w (λ x. not (at x u) || at x v))
-    (elim w [ here ↦ refl | there ↦ refl ])
+    (elim w as (λ k. every (λ a. every (λ b. beq (at k (implication a b)) (every_from k (λ x. not (at x a) || at x b)))) ≡ true) [ here ↦ refl | there ↦ refl ])
 
 every_from_equal : (w : World) (p q : World → Bool) → ((u : World) → p u ≡ q u) → every_from w p ≡ every_from w q
 every_from_equal w p q h = rw (h here, h there)
