@@ -1,5 +1,5 @@
 -- How large B and K get: a kind takes at most two labels and has at most six rows, each of which leaves one rule at most, and node 0, which has no earlier node, takes no label and has no row. By induction on the nodes. Assumes nothing.
-use mathlib.Core.Path.{◌≡◌, refl, sym, ap₂, ◌∙◌}
+use mathlib.Core.Path.{◌≡◌, refl, sym, ap, ap₂, ◌∙◌}
 use mathlib.Core.Logic.{inl, inr, ⊎_elim}
 use mathlib.Core.Bool.{true, false}
 use mathlib.Core.List.{List, [], ◌∷◌, ◌++◌, map}
@@ -122,11 +122,9 @@ chain_rules : (roots n k : ℕ) (ts : List Term) (next x : ℕ) → length ts �
 chain_rules roots zero k ts next x long e = rw add-zero (omega (arith, roots-rules ts k x roots e))
 chain_rules roots (suc n) k ts next x long e =
     let later : k + suc n ≡ suc k + n = omega arith in
-    rw (length-append, e, later)
-    (omega (
-      arith,
-      chain_rules roots n (suc k) (ts ++ (name next ∷ [])) (next + 2) next (rw length-append (omega arith)) (rw (← long) (get_or-append_seam ts (name next) [] (constant false))),
-    ))
+    let rest = chain_rules roots n (suc k) (ts ++ (name next ∷ [])) (next + 2) next (rw length-append (omega arith)) (rw (← long) (get_or-append_seam ts (name next) [] (constant false))) in
+    let moved = ap (λ m. length (rules_from (replicate roots m) (ts ++ (name next ∷ [])) (next + 2) (chain (suc k) n))) later ∙ rest in
+    rw (length-append, e) (omega (arith, moved))
 
 pub size_reached : (b : Book) × WellFormed b × ((k : ℕ) → k < length b.nodes → used b k ≡ true)
     × (b.atoms ≡ most_atoms) × (length b.nodes ≡ most_nodes) × ((flat b).size ≡ largest_b)

@@ -370,13 +370,13 @@ forms_alike t o w fixed packed = translate_read_back t false o fixed ∙ sym (tr
 -- P1 to P9, and three books with a pair: one table, one claim; and the same of their flat programs, labels dropped.
 
 cases : map (λ c. sets_of c.theory) bench_cases ≡ map (λ c. c.sets) bench_cases
-cases = books.benchCases-sets
+cases = books.bench_cases-sets
 
 program_cases : (c : BenchCase) → Memᴰ c bench_cases → (s : List ℕ)
     → Memᴰ s c.sets
     ↔ ((U : Atoms) × AnswerSet (flat c.theory).size (program_formulas (flat c.theory)) U × (atoms_from 0 (take c.theory.atoms U) ≡ s))
-program_cases = programs.benchCases-programs
+program_cases = programs.bench_cases_programs
 
 -- Which nodes are used, of books that leave some out.
 uses : map (λ c. uses_of c.theory) use_cases ≡ map (λ c. c.uses) use_cases
-uses = books.useCases-used
+uses = books.use_cases-used

@@ -62,7 +62,7 @@ count_true_le (b ∷ bytes) = cases (eqb b 2) (λ t. rw t (omega (arith, count_t
 pub candidate_of_candidate : (T : Atoms) → Candidate (candidate_of T)
 unfolding candidate_of
 candidate_of_candidate [] i h = absurd (omega arith)
-candidate_of_candidate (t ∷ T) zero h = elim t [ true ↦ refl | false ↦ refl ]
+candidate_of_candidate (t ∷ T) zero h = elim t as (λ k. wrong true (get_or (candidate_of (k ∷ T)) 0 0) ≡ false) [ true ↦ refl | false ↦ refl ]
 candidate_of_candidate (t ∷ T) (suc i) h = candidate_of_candidate T i (omega arith)
 
 pub set_of-candidate_of : (T : Atoms) → set_of (candidate_of T) ≡ T
