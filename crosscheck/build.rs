@@ -21,7 +21,7 @@ fn main() {
     println!("cargo:rerun-if-changed={}", archive.display());
     if !archive.is_file() {
         eprintln!("{ARCHIVE} is not in {}.", directory.display());
-        eprintln!("Build the library first, or name its directory in RULEBOOK_LIB_DIR,");
+        eprintln!("Build it first by tools/archive, or name its directory in RULEBOOK_LIB_DIR,");
         eprintln!("or leave the library out with --no-default-features.");
         exit(1);
     }

@@ -8,16 +8,14 @@ ghost use Rattle.rulebook.specs.Calls.{ChecksTheory, EvaluatesTheory, Translates
 use refusal::Answer;
 
 // Checks a theory image.
-#[unsafe(no_mangle)]
-pub extern "C" fn rulebook_check_theory(theory: &[u8]) -> Answer
+pub fn rulebook_check_theory(theory: &[u8]) -> Answer
     ensures { ChecksTheory theory.now result }
 {
     theory::check(theory)
 }
 
 // Whether a reading, a byte for each atom, satisfies a theory.
-#[unsafe(no_mangle)]
-pub extern "C" fn rulebook_evaluate_theory(theory: &[u8], reading: &[u8]) -> Answer
+pub fn rulebook_evaluate_theory(theory: &[u8], reading: &[u8]) -> Answer
     ensures { EvaluatesTheory theory.now reading.now result }
 {
     let mut scratch = [0u8; refusal::MOST_NODES];
@@ -34,8 +32,7 @@ pub extern "C" fn rulebook_evaluate_theory(theory: &[u8], reading: &[u8]) -> Ans
 }
 
 // Translates a theory into a flat program image, packed or fixed.
-#[unsafe(no_mangle)]
-pub extern "C" fn rulebook_translate(theory: &[u8], packed: bool, out: &mut [u8]) -> Answer
+pub fn rulebook_translate(theory: &[u8], packed: bool, out: &mut [u8]) -> Answer
     ensures { Translates theory.now packed out.old result out.new }
 {
     let image = theory::check(theory);
@@ -46,8 +43,7 @@ pub extern "C" fn rulebook_translate(theory: &[u8], packed: bool, out: &mut [u8]
 }
 
 // Extends a reading of a theory's atoms to the labels of its flat program.
-#[unsafe(no_mangle)]
-pub extern "C" fn rulebook_extend(theory: &[u8], reading: &[u8], out: &mut [u8]) -> Answer
+pub fn rulebook_extend(theory: &[u8], reading: &[u8], out: &mut [u8]) -> Answer
     ensures { ExtendsReading theory.now reading.now out.old result out.new }
 {
     let image = theory::check(theory);
@@ -58,8 +54,7 @@ pub extern "C" fn rulebook_extend(theory: &[u8], reading: &[u8], out: &mut [u8])
 }
 
 // Whether a candidate, a byte 0 or 2 for each atom, is an answer set of a theory.
-#[unsafe(no_mangle)]
-pub extern "C" fn rulebook_test_theory(theory: &[u8], candidate: &[u8]) -> Answer
+pub fn rulebook_test_theory(theory: &[u8], candidate: &[u8]) -> Answer
     ensures { TestsTheory theory.now candidate.now result }
 {
     let image = theory::check(theory);
@@ -79,8 +74,7 @@ pub extern "C" fn rulebook_test_theory(theory: &[u8], candidate: &[u8]) -> Answe
 }
 
 // Lists the answer sets of a small theory: a 2-byte number each, in which atom i weighs 2 to the i.
-#[unsafe(no_mangle)]
-pub extern "C" fn rulebook_list_sets(theory: &[u8], out: &mut [u8]) -> Answer
+pub fn rulebook_list_sets(theory: &[u8], out: &mut [u8]) -> Answer
     ensures { ListsSets theory.now out.old result out.new }
 {
     let image = theory::check(theory);
@@ -91,16 +85,14 @@ pub extern "C" fn rulebook_list_sets(theory: &[u8], out: &mut [u8]) -> Answer
 }
 
 // Checks a program image.
-#[unsafe(no_mangle)]
-pub extern "C" fn rulebook_check_program(program: &[u8]) -> Answer
+pub fn rulebook_check_program(program: &[u8]) -> Answer
     ensures { ChecksProgram program.now result }
 {
     program::check(program)
 }
 
 // Whether a reading, a byte for each atom and label, satisfies a program.
-#[unsafe(no_mangle)]
-pub extern "C" fn rulebook_evaluate_program(program: &[u8], reading: &[u8]) -> Answer
+pub fn rulebook_evaluate_program(program: &[u8], reading: &[u8]) -> Answer
     ensures { EvaluatesProgram program.now reading.now result }
 {
     let image = program::check(program);
@@ -116,8 +108,7 @@ pub extern "C" fn rulebook_evaluate_program(program: &[u8], reading: &[u8]) -> A
 }
 
 // Whether a candidate, a byte 0 or 2 for each atom and label, is an answer set of a program.
-#[unsafe(no_mangle)]
-pub extern "C" fn rulebook_test_program(program: &[u8], candidate: &[u8]) -> Answer
+pub fn rulebook_test_program(program: &[u8], candidate: &[u8]) -> Answer
     ensures { TestsProgram program.now candidate.now result }
 {
     let image = program::check(program);
