@@ -1,7 +1,7 @@
 // The public calls, by the two letters that a script has for each.
 use refusal::Answer;
 
-#[derive(Drop)]
+#[derive(Clone, Copy)]
 pub enum Call {
     CheckTheory,
     EvaluateTheory,

@@ -5,14 +5,19 @@
 // holds the byte aa throughout before the call. `p` stands for the program image that the last accepted translation wrote, into
 // either form, and `x` for the reading that the last accepted extension wrote. An empty line and a line that begins with `#` are
 // printed as they stand; a line that is malformed is named by its number. The first 327,680 bytes of a script are run.
+#![tactic(auto)]
+
 use call::Call;
-use libc::STDIN_FILENO;
 use refusal::Answer;
+use std::io::{self, BufWriter, Read, Write};
 use words::Words;
 
 mod call;
 mod print;
 mod words;
+
+// How many bytes of a script are run.
+const MOST_READ: u64 = 327680;
 
 // How many bytes are kept of the last accepted translation and extension.
 #[derive(Drop)]
@@ -28,16 +33,18 @@ enum Outcome {
     Malformed,
 }
 
-fn main() {
-    let mut script = [0u8; 327680];
-    let length = io::read_full(STDIN_FILENO, &mut script);
-    run(&script[..length]);
+fn main(rt: HostRuntime) -> io::Result<()> {
+    let mut script = Vec::new(rt.alloc());
+    rt.stdin().take(MOST_READ).read_to_end(&mut script)?;
+    let mut writer = BufWriter::new(rt.alloc(), io::writer(&rt))?;
+    run(&mut writer, &script)?;
+    writer.flush()
 }
 
 // Runs the lines of the script one after the other.
-fn run(script: &[u8]) {
-    let mut program = io::large_buffer();
-    let mut extension = io::buffer();
+fn run(writer: &mut impl Write, script: &[u8]) -> io::Result<()> {
+    let mut program = [0u8; 65536];
+    let mut extension = [0u8; 4096];
     let mut kept = Kept {
         program: 0,
         extension: 0,
@@ -47,27 +54,36 @@ fn run(script: &[u8]) {
     while at < script.len() {
         let rest = &script[at..];
         let size = words::find(rest, b'\n');
-        kept = run_line(&rest[0..size], number, &mut program, &mut extension, kept);
+        kept = run_line(
+            writer,
+            &rest[0..size],
+            number,
+            &mut program,
+            &mut extension,
+            kept,
+        )?;
         number += 1;
         at = at + size + 1;
     }
+    Ok(())
 }
 
 // Runs one line, and gives what is kept after it.
 fn run_line(
+    writer: &mut impl Write,
     text: &[u8],
     number: usize,
     program: &mut [u8],
     extension: &mut [u8],
     kept: Kept,
-) -> Kept {
+) -> io::Result<Kept> {
     if is_remark(text) {
-        print::line(text);
-        return kept;
+        print::line(writer, text)?;
+        return Ok(kept);
     }
-    let mut image = io::large_buffer();
-    let mut reading = io::buffer();
-    let mut out = io::large_buffer();
+    let mut image = [0u8; 65536];
+    let mut reading = [0u8; 4096];
+    let mut out = [0u8; 65536];
     let call = call::named(text);
     let words = words::read(
         text,
@@ -76,11 +92,11 @@ fn run_line(
         &mut image,
         &mut reading,
     );
-    match run_call(call, words, &image, &reading, &mut out) {
-        Outcome::Given(answer) => keep(call, answer, &out, program, extension, kept),
+    match run_call(writer, call, words, &image, &reading, &mut out)? {
+        Outcome::Given(answer) => Ok(keep(call, answer, &out, program, extension, kept)),
         Outcome::Malformed => {
-            print::malformed(number);
-            kept
+            print::malformed(writer, number)?;
+            Ok(kept)
         }
     }
 }
@@ -90,21 +106,28 @@ fn is_remark(text: &[u8]) -> bool {
 }
 
 // Makes the call of a line whose words are those that the call takes, and prints what it gave.
-fn run_call(call: Call, words: Words, image: &[u8], reading: &[u8], out: &mut [u8]) -> Outcome {
+fn run_call(
+    writer: &mut impl Write,
+    call: Call,
+    words: Words,
+    image: &[u8],
+    reading: &[u8],
+    out: &mut [u8],
+) -> io::Result<Outcome> {
     let image_length = words.image;
     let reading_length = words.reading;
     let out_length = words.out;
     if words.shape != call::shape(call) {
-        return Outcome::Malformed;
+        return Ok(Outcome::Malformed);
     }
     if image.len() < image_length {
-        return Outcome::Malformed;
+        return Ok(Outcome::Malformed);
     }
     if reading.len() < reading_length {
-        return Outcome::Malformed;
+        return Ok(Outcome::Malformed);
     }
     if out.len() < out_length {
-        return Outcome::Malformed;
+        return Ok(Outcome::Malformed);
     }
     let room = &mut out[0..out_length];
     words::fill(room, 0xaa);
@@ -114,8 +137,8 @@ fn run_call(call: Call, words: Words, image: &[u8], reading: &[u8], out: &mut [u
         &reading[0..reading_length],
         room,
     );
-    print::answer(answer, room);
-    Outcome::Given(answer)
+    print::answer(writer, answer, room)?;
+    Ok(Outcome::Given(answer))
 }
 
 // Keeps what an accepted translation or extension wrote.

@@ -1,46 +1,40 @@
 // What the program prints.
-use libc::STDOUT_FILENO;
 use refusal::Answer;
+use std::io::{self, Write};
 
 // The longest output whose bytes are printed.
 const MOST_PRINTED: usize = 256;
 
 // A line as it stands.
-pub fn line(text: &[u8]) {
-    io::write_all(STDOUT_FILENO, text);
-    io::write_all(STDOUT_FILENO, b"\n");
+pub fn line(writer: &mut impl Write, text: &[u8]) -> io::Result<()> {
+    writer.write_all(text)?;
+    writer.write_all(b"\n")
 }
 
 // That a line is malformed, and its number.
-pub fn malformed(number: usize) {
-    io::write_all(STDOUT_FILENO, b"line ");
-    io::print_decimal(STDOUT_FILENO, number as u64);
-    io::write_all(STDOUT_FILENO, b" is malformed\n");
+pub fn malformed(writer: &mut impl Write, number: usize) -> io::Result<()> {
+    writeln!(writer, "line {number} is malformed")
 }
 
 // Number, place and result of an answer, and the bytes of a short output.
-pub fn answer(given: Answer, out: &[u8]) {
-    io::print_decimal(STDOUT_FILENO, given.number as u64);
-    io::write_all(STDOUT_FILENO, b" ");
-    io::print_decimal(STDOUT_FILENO, given.place as u64);
-    io::write_all(STDOUT_FILENO, b" ");
-    io::print_decimal(STDOUT_FILENO, given.result as u64);
+pub fn answer(writer: &mut impl Write, given: Answer, out: &[u8]) -> io::Result<()> {
+    write!(writer, "{} {} {}", given.number, given.place, given.result)?;
     if out.len() <= MOST_PRINTED {
-        bytes(out);
+        bytes(writer, out)?;
     }
-    io::write_all(STDOUT_FILENO, b"\n");
+    writeln!(writer)
 }
 
 // A space and two digits for each byte.
-fn bytes(out: &[u8]) {
+fn bytes(writer: &mut impl Write, out: &[u8]) -> io::Result<()> {
     let mut i = 0;
     while i < out.len() {
-        byte(out[i]);
+        byte(writer, out[i])?;
         i += 1;
     }
+    Ok(())
 }
 
-fn byte(value: u8) {
-    io::write_all(STDOUT_FILENO, b" ");
-    io::print_hex(STDOUT_FILENO, value as u64, 2);
+fn byte(writer: &mut impl Write, value: u8) -> io::Result<()> {
+    write!(writer, " {value:02x}")
 }
