@@ -1,4 +1,4 @@
-use Rattle.std.proofs.Common.{◌≡◌, ℕ, Bool, List, not}
+use Rattle.std.proofs.Common.{◌≡◌}
 use Rattle.refusal.proofs.First.{first_here, first_on, first_end}
 use Rattle.theory.specs.Book.{pair_fits}
 use Rattle.theory.specs.Image.{pair_in}

@@ -1,4 +1,4 @@
-use Rattle.std.proofs.Common.{◌≡◌, ◌∙◌, not, ltb, lt-ltb, le-ltb, ℕ, List}
+use Rattle.std.proofs.Common.{◌≡◌, ◌∙◌, not, ltb, lt-ltb, le-ltb, ℕ}
 use Rattle.refusal.proofs.First.{first_here, first_on, first_end}
 use Rattle.logic.specs.declared.Value.{Value}
 use Rattle.logic.specs.Value.{number, smaller, true_here}

@@ -1,7 +1,8 @@
+-- `first_wrong_field` gives the first of a node's fields that is wrong: it tries them in their order, and has passed those that are right. Assumes nothing.
 use Rattle.std.proofs.Common.{◌≡◌, ◌≤◌, ◌<◌, ℕ, List, ap, not, arith, get_or, ◌+◌, ◌*◌, lt-ltb, le-ltb, eq-eqb, ne_eqb}
 use Rattle.refusal.proofs.First.{first_here, first_on, first_end}
 use Rattle.theory.specs.Book.{left_limit, right_limit}
-use Rattle.theory.specs.Image.{kind_of, node_in, first_wrong}
+use Rattle.theory.specs.Image.{node_in, first_wrong}
 use Rattle.theory.proofs.first_wrong_field.Goals as goal
 
 -- Past each test, the first wrong field is further on.

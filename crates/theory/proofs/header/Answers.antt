@@ -1,5 +1,5 @@
 -- `header` gives the rows on the header: each test is its row's, and at each return the rows before are past. Assumes nothing.
-use Rattle.std.proofs.Common.{◌≡◌, false, List, [], ◌∷◌, ℕ, ◌≤◌, ◌+◌, ◌*◌, length, lt-ltb, le-ltb, eq-eqb, ne_eqb, sym, ◌∙◌}
+use Rattle.std.proofs.Common.{◌≡◌, false, List, [], ◌∷◌, ℕ, ◌≤◌, ◌+◌, ◌*◌, length, lt-ltb, le-ltb, eq-eqb, ne_eqb, ◌∙◌}
 use Rattle.refusal.proofs.Table.{Reached, reached_first, reached_next, reached_refused, reached_accepted}
 use Rattle.theory.specs.Image.{node_count, root_count, pair_count, image_length}
 use Rattle.theory.specs.Rows.{row2, row4, row5, header_rows}

@@ -1,6 +1,6 @@
 use Rattle.std.proofs.Common.{refl, rules}
 use Rattle.wire.proofs.Sequence.{up_to-none}
-use Rattle.theory.proofs.Used.{all_operands-up_to, marked_append, length_marked}
+use Rattle.theory.proofs.Used.{all_operands-up_to, marked_append}
 use Rattle.theory.proofs.mark_nodes.Goals as goal
 
 pub loop-k-init : goal.loop-k-init

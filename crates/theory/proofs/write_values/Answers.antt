@@ -1,4 +1,4 @@
-use Rattle.std.proofs.Common.{◌≡◌, ◌∙◌, refl, ap, List, ℕ, take, set, ◌+◌, ◌<◌, length, rules, map}
+use Rattle.std.proofs.Common.{◌≡◌, refl, List, ℕ, take, set, ◌+◌, ◌<◌, length, rules, map}
 use Rattle.logic.specs.declared.Value.{Value}
 use Rattle.logic.specs.Value.{number}
 use Rattle.logic.specs.Formula.{Reading, reading_of}
