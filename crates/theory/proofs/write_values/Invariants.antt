@@ -1,5 +1,5 @@
 -- `write_values` writes the nodes' values: before each turn the first k stand there, and they are just what the next one is made of. Assumes nothing.
-use Rattle.std.proofs.Common.{◌≡◌, ap, map, ◌-◌, ◌≤◌, length}
+use Rattle.std.proofs.Common.{◌≡◌, map, ◌-◌, ◌≤◌, length}
 use Rattle.logic.specs.Value.{number}
 use Rattle.logic.specs.Formula.{reading_of}
 use Rattle.wire.specs.Wire.{over}
