@@ -1,11 +1,11 @@
 -- `check` gives rows 21 to 26: each test is its row's, and at each return the rows before are past. Assumes nothing.
-use Rattle.std.proofs.Common.{◌≡◌, sym, ap, ◌∙◌, true, false, List, ℕ, ◌≤◌, arith, length, drop, lt-ltb, le-ltb, eq-eqb, ne_eqb}
+use Rattle.std.proofs.Common.{◌≡◌, sym, ◌∙◌, true, false, List, ℕ, ◌≤◌, arith, length, drop, lt-ltb, le-ltb, eq-eqb, ne_eqb}
 use Rattle.refusal.proofs.Table.{Reached, reached_first, reached_next, reached_refused, reached_accepted}
 use Rattle.refusal.proofs.First.{first-refused, first_next}
 use Rattle.wire.specs.Wire.{u16_at, u32_at}
 use Rattle.wire.proofs.Laws.{part_from}
 use Rattle.program.specs.Image.{rule_count, is_packed, total_of, header_length}
-use Rattle.program.specs.Rows.{total_keeps, row22, row26, program_rows}
+use Rattle.program.specs.Rows.{total_keeps, row22, program_rows}
 use Rattle.program.proofs.check.Goals as goal
 use Rattle.program.proofs.check.Goals.{then-u32_at-ne-HEADER_LENGTH-via-then-u32_at-ne-HEADER_LENGTH, then-u32_at-ne-HEADER_LENGTH-via-else-u32_at-ne-HEADER_LENGTH+then-not-total_keeps}
 
@@ -60,10 +60,10 @@ returns-then-u32_at-ne-HEADER_LENGTH c =
     let form = rw c.u16_at-form.ensures.0 at c.if-form-gt1.false in
     reached_refused (past23 c.args.program.now c.if-program-lt-HEADER_LENGTH.false inside form)
     (rw (← c.u32_at.ensures.0) (elim c.then-u32_at-ne-HEADER_LENGTH.branch [
-      then-u32_at-ne-HEADER_LENGTH-via-then-u32_at-ne-HEADER_LENGTH w ↦ rw (ne_eqb _ header_length w.if-u32_at-ne-HEADER_LENGTH.true)
-    | then-u32_at-ne-HEADER_LENGTH-via-else-u32_at-ne-HEADER_LENGTH+then-not-total_keeps w ↦
-      let kept = rw (c.u16_at-form.ensures.0, c.u16_at-count.ensures.0, c.u32_at-total.ensures.0) at (sym w.total_keeps.ensures ∙ w.if-not-total_keeps.true) in
-      rw (eq-eqb _ header_length w.if-u32_at-ne-HEADER_LENGTH.false, kept)
+      | then-u32_at-ne-HEADER_LENGTH-via-then-u32_at-ne-HEADER_LENGTH w ↦ rw (ne_eqb _ header_length w.if-u32_at-ne-HEADER_LENGTH.true)
+      | then-u32_at-ne-HEADER_LENGTH-via-else-u32_at-ne-HEADER_LENGTH+then-not-total_keeps w ↦
+          let kept = rw (c.u16_at-form.ensures.0, c.u16_at-count.ensures.0, c.u32_at-total.ensures.0) at (sym w.total_keeps.ensures ∙ w.if-not-total_keeps.true) in
+          rw (eq-eqb _ header_length w.if-u32_at-ne-HEADER_LENGTH.false, kept)
     ]))
     c.refuse-then-u32_at-ne-HEADER_LENGTH.ensures
 

@@ -1,4 +1,4 @@
-use Rattle.std.proofs.Common.{◌≡◌, sym, ap, ◌∙◌, Bool, List, ℕ, ◌-◌, ◌≤◌, ◌<◌, arith, ltb, length, length-drop, lt-ltb, le-ltb, rules}
+use Rattle.std.proofs.Common.{◌≡◌, ap, ◌∙◌, Bool, List, ℕ, ◌-◌, ◌≤◌, ◌<◌, arith, ltb, length, length-drop, lt-ltb, le-ltb, rules}
 use Rattle.refusal.proofs.First.{first_here, first_on, first_end}
 use Rattle.wire.proofs.Laws.{part_from}
 use Rattle.program.specs.Image.{rule_length}
@@ -24,7 +24,7 @@ loop-place-preserved c =
     let loop = c.loop-place in
     let part = part_from loop.at c.args.rules.now in
     let tested = rw (part, loop.invariant.0.here) at c.keeps.ensures in (
-      walk_on loop.invariant.0 (walk_kept loop.invariant.0 c.args.size (sym tested ∙ c.if-not-keeps.false))
+      walk_on loop.invariant.0 (walk_kept loop.invariant.0 c.args.size (rw (← tested) c.if-not-keeps.false))
           (c.rule_length-at.ensures ∙ ap (rule_length c.args.packed) (rw part at c.used_at.ensures.0)),
       first_on _ _ _ loop.invariant.1 (omega arith) (rw (lt-ltb _ _ c.loop-place-test.true, ← tested, c.if-not-keeps.false)),
       search rules,

@@ -1,5 +1,5 @@
 -- `put_rule` writes the counts and as many slots as the form has. Assumes nothing.
-use Rattle.std.proofs.Common.{◌∙◌, sym, arith}
+use Rattle.std.proofs.Common.{arith}
 use Rattle.program.proofs.Lengths.{length-counted_bytes}
 use Rattle.program.proofs.put_rule.Goals as goal
 
