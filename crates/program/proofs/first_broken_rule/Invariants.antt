@@ -1,5 +1,5 @@
 -- `first_broken_rule` walks along the rules: before each turn it has not passed the first place at which something is wrong. Assumes nothing.
-use Rattle.std.proofs.Common.{◌+◌, ◌-◌, ◌≤◌, rules}
+use Rattle.std.proofs.Common.{◌+◌, ◌-◌, ◌≤◌}
 use Rattle.refusal.specs.First.{first}
 use Rattle.program.specs.Rows.{broken_at}
 use Rattle.program.proofs.Walk.{Walk}

@@ -1,5 +1,5 @@
 -- `satisfied` walks along the rules: before each turn those that were tried hold, and one that does not decides. Assumes nothing.
-use Rattle.std.proofs.Common.{◌≡◌, true, ◌-◌, ◌≤◌, rules}
+use Rattle.std.proofs.Common.{◌≡◌, true, ◌-◌, ◌≤◌}
 use Rattle.logic.specs.Formula.{reading_of, value_of}
 use Rattle.program.specs.Rule.{all_hold}
 use Rattle.program.specs.Image.{rules_in}
