@@ -1,4 +1,4 @@
-use Rattle.std.proofs.Common.{refl, sym, add-one, lt-ltb, le-ltb, rules}
+use Rattle.std.proofs.Common.{refl, sym, add-one, arith, lt-ltb, le-ltb, rules}
 use Rattle.program.specs.Image.{slot_at, slots_keep}
 use Rattle.program.proofs.Slots.{slots_keep_broken}
 use Rattle.program.proofs.atoms_keep.Goals as goal
@@ -12,7 +12,7 @@ returns-then-size-u16_at c =
     let i = c.loop-i.i in
     let used = c.args.used in
     sym (slots_keep_broken c.args.size used (slot_at c.args.rule.now) used i c.loop-i-test.true
-    (rw (lt-ltb i used c.loop-i-test.true, ← c.u16_at.ensures.0) (le-ltb _ _ c.if-size-u16_at.true)))
+    (rw (lt-ltb i used c.loop-i-test.true, ← c.u16_at.ensures.0) (le-ltb _ _ (omega arith))))
 
 pub loop-i-preserved : goal.loop-i-preserved
 unfolding slots_keep

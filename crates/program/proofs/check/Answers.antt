@@ -51,13 +51,13 @@ unfolding program_rows
 returns-then-form-gt1 c =
     let inside = rw (c.u16_at.ensures.0, c.u16_at-size.ensures.0, c.u16_at-count.ensures.0) at (sym c.is_outside.ensures ∙ c.if-is_outside.false) in
     reached_refused (past22 c.args.program.now c.if-program-lt-HEADER_LENGTH.false inside)
-    (rw (← c.u16_at-form.ensures.0) (lt-ltb 1 _ c.if-form-gt1.true)) c.refuse-then-form-gt1.ensures
+    (rw (← c.u16_at-form.ensures.0) (lt-ltb 1 _ (omega (arith, c.if-form-gt1.true)))) c.refuse-then-form-gt1.ensures
 
 pub returns-then-u32_at-ne-HEADER_LENGTH : goal.returns-then-u32_at-ne-HEADER_LENGTH
 unfolding program_rows
 returns-then-u32_at-ne-HEADER_LENGTH c =
     let inside = rw (c.u16_at.ensures.0, c.u16_at-size.ensures.0, c.u16_at-count.ensures.0) at (sym c.is_outside.ensures ∙ c.if-is_outside.false) in
-    let form = rw c.u16_at-form.ensures.0 at c.if-form-gt1.false in
+    let form : u16_at c.args.program.now 6 ≤ 1 = omega (arith, c.u16_at-form.ensures.0, c.if-form-gt1.false) in
     reached_refused (past23 c.args.program.now c.if-program-lt-HEADER_LENGTH.false inside form)
     (rw (← c.u32_at.ensures.0) (elim c.then-u32_at-ne-HEADER_LENGTH.branch [
       | then-u32_at-ne-HEADER_LENGTH-via-then-u32_at-ne-HEADER_LENGTH w ↦ rw (ne_eqb _ header_length w.if-u32_at-ne-HEADER_LENGTH.true)
@@ -71,7 +71,7 @@ pub returns-then-program-total : goal.returns-then-program-total
 unfolding program_rows
 returns-then-program-total c =
     let inside = rw (c.u16_at.ensures.0, c.u16_at-size.ensures.0, c.u16_at-count.ensures.0) at (sym c.is_outside.ensures ∙ c.if-is_outside.false) in
-    let form = rw c.u16_at-form.ensures.0 at c.if-form-gt1.false in
+    let form : u16_at c.args.program.now 6 ≤ 1 = omega (arith, c.u16_at-form.ensures.0, c.if-form-gt1.false) in
     let offset = sym c.u32_at.ensures.0 ∙ c.if-u32_at-ne-HEADER_LENGTH.false in
     let kept = rw (c.u16_at-form.ensures.0, c.u16_at-count.ensures.0, c.u32_at-total.ensures.0) at (sym c.total_keeps.ensures ∙ c.if-not-total_keeps.false) in
     let at24 = past24 c.args.program.now c.if-program-lt-HEADER_LENGTH.false inside form offset kept in
@@ -82,7 +82,7 @@ pub returns-then-broken-count : goal.returns-then-broken-count
 unfolding program_rows
 returns-then-broken-count c =
     let inside = rw (c.u16_at.ensures.0, c.u16_at-size.ensures.0, c.u16_at-count.ensures.0) at (sym c.is_outside.ensures ∙ c.if-is_outside.false) in
-    let form = rw c.u16_at-form.ensures.0 at c.if-form-gt1.false in
+    let form : u16_at c.args.program.now 6 ≤ 1 = omega (arith, c.u16_at-form.ensures.0, c.if-form-gt1.false) in
     let offset = sym c.u32_at.ensures.0 ∙ c.if-u32_at-ne-HEADER_LENGTH.false in
     let kept = rw (c.u16_at-form.ensures.0, c.u16_at-count.ensures.0, c.u32_at-total.ensures.0) at (sym c.total_keeps.ensures ∙ c.if-not-total_keeps.false) in
     let at24 = past24 c.args.program.now c.if-program-lt-HEADER_LENGTH.false inside form offset kept in
@@ -94,7 +94,7 @@ pub returns : goal.returns
 unfolding program_rows
 returns c =
     let inside = rw (c.u16_at.ensures.0, c.u16_at-size.ensures.0, c.u16_at-count.ensures.0) at (sym c.is_outside.ensures ∙ c.if-is_outside.false) in
-    let form = rw c.u16_at-form.ensures.0 at c.if-form-gt1.false in
+    let form : u16_at c.args.program.now 6 ≤ 1 = omega (arith, c.u16_at-form.ensures.0, c.if-form-gt1.false) in
     let offset = sym c.u32_at.ensures.0 ∙ c.if-u32_at-ne-HEADER_LENGTH.false in
     let kept = rw (c.u16_at-form.ensures.0, c.u16_at-count.ensures.0, c.u32_at-total.ensures.0) at (sym c.total_keeps.ensures ∙ c.if-not-total_keeps.false) in
     let at24 = past24 c.args.program.now c.if-program-lt-HEADER_LENGTH.false inside form offset kept in
