@@ -1,6 +1,6 @@
 -- `add_slots` adds the terms of some slots: before each turn those of the slots passed are added. Assumes nothing.
 use Rattle.std.proofs.Common.{◌≡◌, ◌+◌, ◌-◌, ◌≤◌, get_or}
-use Rattle.table.specs.OneRule.{added, added_to}
+use Rattle.table.specs.OneRule.{added_to}
 use Rattle.table.proofs.add_slots.Given as goal
 
 abbrev pub invariant-loop-j : goal.invariant-loop-j
