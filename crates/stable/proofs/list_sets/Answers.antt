@@ -29,27 +29,27 @@ returns-then-atoms-gt-MOST_LISTED c =
     record { value = c.refuse.ensures ∙ ap (refused 11) atoms ∙ many.0; out_after = many.1 }
 
 pub count_set-count-requires : goal.count_set-count-requires
-count_set-count-requires c = (power c.atoms-atoms.ensures.0 c.if-atoms-gt-MOST_LISTED.false c.two_to-sets.ensures.0).1
+count_set-count-requires c = omega (arith, power c.atoms-atoms.ensures.0 (omega arith) c.two_to-sets.ensures.0)
 
 pub overflow_mul-count : goal.overflow_mul-count
-overflow_mul-count c = omega (arith, length-passing (bit_at c.find_sets.new.found) c.two_to-sets.result)
+overflow_mul-count c = omega (arith, length-passing, power c.atoms-atoms.ensures.0 (omega arith) c.two_to-sets.ensures.0)
 
 pub overflow_mul-count-then-out-count : goal.overflow_mul-count-then-out-count
-overflow_mul-count-then-out-count c = omega (arith, length-passing (bit_at c.find_sets.new.found) c.two_to-sets.result)
+overflow_mul-count-then-out-count c = omega (arith, length-passing, power c.atoms-atoms.ensures.0 (omega arith) c.two_to-sets.ensures.0)
 
 pub returns-then-out-count : goal.returns-then-out-count
 returns-then-out-count c =
-    let sets = power c.atoms-atoms.ensures.0 c.if-atoms-gt-MOST_LISTED.false c.two_to-sets.ensures.0 in
+    let sets = power c.atoms-atoms.ensures.0 (omega arith) c.two_to-sets.ensures.0 in
     let number = counted c.args.theory.now c.find_sets.new.found c.find_sets.ensures sets.0 c.count_set-count.ensures in
     let short = listed_short c.args.theory.now c.args.out.now sets.2 (omega (arith, c.if-out-count.true, number)) in
     record { value = c.refuse-then-out-count.ensures ∙ ap (λ n. refused 8 (2 * n)) number ∙ short.0; out_after = short.1 }
 
 pub write_set-requires-clause-n_bound : goal.write_set-requires-clause-n_bound
-write_set-requires-clause-n_bound c = (power c.atoms-atoms.ensures.0 c.if-atoms-gt-MOST_LISTED.false c.two_to-sets.ensures.0).1
+write_set-requires-clause-n_bound c = omega (arith, power c.atoms-atoms.ensures.0 (omega arith) c.two_to-sets.ensures.0)
 
 pub returns : goal.returns
 returns c =
-    let sets = power c.atoms-atoms.ensures.0 c.if-atoms-gt-MOST_LISTED.false c.two_to-sets.ensures.0 in
+    let sets = power c.atoms-atoms.ensures.0 (omega arith) c.two_to-sets.ensures.0 in
     let found = c.find_sets.new.found in
     let number = counted c.args.theory.now found c.find_sets.ensures sets.0 c.count_set-count.ensures in
     let whole = listed-whole c.args.theory.now c.args.out.now sets.2 (omega (arith, c.if-out-count.false, number)) in

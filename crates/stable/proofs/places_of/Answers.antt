@@ -25,7 +25,7 @@ room candidate valid places count i fits e inside two =
 pub bounds-places-count : goal.bounds-places-count
 bounds-places-count c =
     let loop = c.loop-i in
-    omega (arith, room _ c.requires.candidate loop.places loop.count loop.i (omega arith) loop.invariant.0 c.loop-i-test.true c.if-candidate-i-eq2.true)
+    omega (arith, room _ c.requires.candidate loop.places loop.count loop.i (omega arith) loop.invariant.0 c.loop-i-test.true (omega arith))
 
 pub loop-i-preserved : goal.loop-i-preserved
 loop-i-preserved c =
@@ -35,9 +35,10 @@ loop-i-preserved c =
     let next = places_at candidate c.requires.candidate i c.loop-i-test.true in
     elim c.if-candidate-i-eq2.branch [
       | then-candidate-i-eq2 w ↦
-          let free = room candidate c.requires.candidate loop.places loop.count i (omega arith) loop.invariant.0 c.loop-i-test.true w.if-candidate-i-eq2.true in
+          let two : get_or candidate i 0 ≡ 2 = omega arith in
+          let free = room candidate c.requires.candidate loop.places loop.count i (omega arith) loop.invariant.0 c.loop-i-test.true two in
           rw (w.places-is, w.count-is) (
-            next_number loop.places loop.count i _ _ (omega arith) loop.invariant.0 (rw (eq-eqb (get_or candidate i 0) 2 w.if-candidate-i-eq2.true) at next),
+            next_number loop.places loop.count i _ _ (omega arith) loop.invariant.0 (rw (eq-eqb (get_or candidate i 0) 2 two) at next),
             omega arith,
             omega arith,
             simp length-set (omega arith),
