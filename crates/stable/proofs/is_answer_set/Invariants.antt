@@ -8,14 +8,14 @@ use Rattle.stable.proofs.Tests.{satisfies_lowered}
 use Rattle.stable.proofs.is_answer_set.Given as goal
 
 abbrev pub invariant-loop-m : goal.invariant-loop-m
-invariant-loop-m l = Testable l.program l.image l.candidate
-    × (satisfies (reading_of l.candidate) (formulas_of l.program l.image) ≡ true)
-    × (l.full ≡ 2 ^ count_true l.candidate - 1)
-    × ((k : ℕ) → k < l.m → satisfies_lowered l.program l.image l.candidate k ≡ false)
+invariant-loop-m l = Testable l.program l.image l.initial.reading
+    × (satisfies (reading_of l.initial.reading) (formulas_of l.program l.image) ≡ true)
+    × (l.full ≡ 2 ^ count_true l.initial.reading - 1)
+    × ((k : ℕ) → k < l.m → satisfies_lowered l.program l.image l.initial.reading k ≡ false)
     × (l.m ≤ l.full)
-    × (l.reading ≡ lowered (set_of l.candidate) (l.full + l.m))
+    × (l.reading ≡ lowered (set_of l.initial.reading) (l.full + l.m))
     × (most_values l.program ≤ length l.values)
-    × (length l.reading ≡ length l.candidate)
+    × (length l.reading ≡ length l.initial.reading)
     × (length l.values ≡ length l.initial.values)
 
 abbrev pub decreases-loop-m : goal.decreases-loop-m

@@ -1,5 +1,5 @@
 -- `places_of` writes the places: before each turn those written and those from i on make the whole. Assumes nothing.
-use Rattle.std.proofs.Common.{◌≡◌, ◌++◌, ◌+◌, ◌-◌, ◌≤◌, length, take, drop}
+use Rattle.std.proofs.Common.{◌≡◌, ◌++◌, ◌-◌, ◌≤◌, length, take, drop}
 use Rattle.refusal.specs.Limits.{most_true}
 use Rattle.stable.specs.Subset.{set_of, places_from, places_of}
 use Rattle.stable.proofs.places_of.Given as goal

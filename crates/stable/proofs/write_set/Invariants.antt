@@ -1,5 +1,5 @@
 -- `write_set` writes the numbers that are set: before each turn those below c are written over the start of `out`. Assumes nothing.
-use Rattle.std.proofs.Common.{ap, ◌-◌, ◌≤◌}
+use Rattle.std.proofs.Common.{◌-◌, ◌≤◌}
 use Rattle.wire.proofs.Laws.{Written}
 use Rattle.stable.specs.Listing.{numbers_bytes}
 use Rattle.stable.specs.Bitmap.{bit_at, passing}
