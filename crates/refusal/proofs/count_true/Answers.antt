@@ -8,8 +8,8 @@ pub loop-i-preserved : goal.loop-i-preserved
 loop-i-preserved c =
     let e = count_true-drop c.args.bytes.now c.loop-i.i (search rules) in
     elim c.if-bytes-i-eq2.branch [
-      then-bytes-i-eq2 w ↦ omega (arith, rw (eq-eqb _ 2 w.if-bytes-i-eq2.true) at e)
-    | else-bytes-i-eq2 w ↦ omega (arith, rw (ne_eqb _ 2 w.if-bytes-i-eq2.false) at e)
+      | then-bytes-i-eq2 w ↦ omega (arith, rw (eq-eqb _ 2 w.if-bytes-i-eq2.true) at e)
+      | else-bytes-i-eq2 w ↦ omega (arith, rw (ne_eqb _ 2 w.if-bytes-i-eq2.false) at e)
     ]
 
 pub returns : goal.returns
