@@ -1,4 +1,4 @@
-use Rattle.std.proofs.Common.{◌≡◌, length, drop, drop_of_length-le, arith, rules, eq-eqb, ne_eqb}
+use Rattle.std.proofs.Common.{◌≡◌, drop, drop_of_length-le, arith, rules, eq-eqb, ne_eqb}
 use Rattle.refusal.specs.Rows.{count_true}
 use Rattle.refusal.proofs.Rows.{count_true-drop}
 use Rattle.refusal.proofs.count_true.Goals as goal
