@@ -1,7 +1,7 @@
 -- Laws of the extension: its length, what dropping the labels gives, and that each label holds the value it stands for.
 use mathlib.Core.Path.{◌≡◌, refl, sym, ◌∙◌, ap, ap₂}
 use mathlib.Core.Logic.{◌↔◌}
-use mathlib.Core.Bool.{true, ◌&&◌}
+use mathlib.Core.Bool.{true}
 use mathlib.Core.List.{List, [], ◌∷◌, ◌++◌, map, map-append}
 use Prim.Native.Nat.{ℕ, zero, suc, ◌+◌, ◌<◌}
 use native.Mathlib.Nat.{add-zero, zero-add, add_assoc}

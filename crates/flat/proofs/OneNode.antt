@@ -33,7 +33,7 @@ labelled implies_kind a b l m = same l (implication a b) && same m (negation b)
 table : (k : Kind) (a b l m : Value) → all_hold (slots a b l m) (rows k) ≡ labelled k a b l m
 table k = agree₄ beq beq_sound (λ a b l m. all_hold (slots a b l m) (rows k)) (labelled k)
     (elim k as (λ k'. every (λ a. every (λ b. every (λ c. every (λ d. beq (all_hold (slots a b c d) (rows k')) (labelled k' a b c d))))) ≡ true)
-      [ false_kind ↦ refl | true_kind ↦ refl | atom_kind ↦ refl | not_kind ↦ refl | and_kind ↦ refl | or_kind ↦ refl | implies_kind ↦ refl ])
+    [ false_kind ↦ refl | true_kind ↦ refl | atom_kind ↦ refl | not_kind ↦ refl | and_kind ↦ refl | or_kind ↦ refl | implies_kind ↦ refl ])
 
 pub one_node : (J : Reading) (k : Kind) (left right : Term) (next : ℕ)
     → all_hold (value_of J) (instances (fill left right next) (rows k)) ≡ labelled k (term_value J left) (term_value J right) (value_of J next) (value_of J (suc next))

@@ -1,2 +1,3 @@
 pub mod Candidate
+pub mod Clear
 pub mod Promises

@@ -1,4 +1,4 @@
-use Rattle.std.proofs.Common.{◌≡◌, refl, List, ℕ, ◌+◌, ◌-◌, ◌<◌, add-one, arith, length, get_or, take, set, take-suc, length-take-le, rules}
+use Rattle.std.proofs.Common.{◌≡◌, refl, List, ℕ, ◌+◌, ◌<◌, add-one, arith, length, get_or, take, set, take-suc, length-take-le, rules}
 use lib.Seq.{take-length}
 use Rattle.wire.specs.Wire.{over}
 use Rattle.wire.proofs.Laws.{over_store}
