@@ -1,6 +1,5 @@
 -- `count_facts` counts the roots' facts: before each turn it has counted those of the roots passed. Assumes nothing.
-use Rattle.std.proofs.Common.{◌-◌, ◌≤◌, rules}
-use Rattle.flat.specs.Flat.{fact}
+use Rattle.std.proofs.Common.{◌-◌, ◌≤◌}
 use Rattle.translation.specs.Turns.{facts_to, scratch_term, Counted}
 use Rattle.translation.proofs.count_facts.Given as goal
 

@@ -1,5 +1,5 @@
 -- `count_rows` counts the rules that stay of a kind's rows: before each turn it has counted those of the rows passed. Assumes nothing.
-use Rattle.std.proofs.Common.{◌-◌, ◌≤◌, rules}
+use Rattle.std.proofs.Common.{◌-◌, ◌≤◌}
 use Rattle.translation.specs.Turns.{rows_to, Counted}
 use Rattle.translation.proofs.count_rows.Given as goal
 

@@ -1,6 +1,5 @@
 -- `measure` numbers and counts in one pass: before each turn the scratch begins with the numbers of the terms of the nodes passed, `next` is the label behind theirs, and their rules are counted. Assumes nothing.
-use Rattle.std.proofs.Common.{◌≡◌, ◌-◌, ◌*◌, ◌≤◌, length, rules}
-use Rattle.flat.specs.Flat.{term}
+use Rattle.std.proofs.Common.{◌≡◌, ◌-◌, ◌*◌, ◌≤◌, length}
 use Rattle.translation.specs.Turns.{next_to, rules_to, Counted, NumberedTo}
 use Rattle.translation.proofs.measure.Given as goal
 
