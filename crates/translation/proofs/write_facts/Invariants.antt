@@ -1,8 +1,7 @@
 -- `write_facts` writes the roots' facts: before each turn those of the roots passed are written. Assumes nothing.
-use Rattle.std.proofs.Common.{◌-◌, ◌≤◌, rules}
+use Rattle.std.proofs.Common.{◌-◌, ◌≤◌}
 use Rattle.wire.proofs.Laws.{Written}
 use Rattle.program.specs.Image.{rules_bytes}
-use Rattle.flat.specs.Flat.{fact}
 use Rattle.translation.specs.Turns.{facts_to, scratch_term}
 use Rattle.translation.proofs.write_facts.Given as goal
 

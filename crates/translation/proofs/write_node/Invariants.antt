@@ -1,5 +1,5 @@
 -- `write_node` writes a node's rules: before each turn those of the rows passed are written, and the next row's go into the unwritten rest. Assumes nothing.
-use Rattle.std.proofs.Common.{◌-◌, ◌≤◌, rules}
+use Rattle.std.proofs.Common.{◌-◌, ◌≤◌}
 use Rattle.wire.proofs.Laws.{Written}
 use Rattle.program.specs.Image.{rules_bytes}
 use Rattle.translation.specs.Turns.{rows_to}

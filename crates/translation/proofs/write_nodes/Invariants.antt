@@ -1,5 +1,5 @@
 -- `write_nodes` writes the rules of all nodes: before each turn those of the nodes passed are written, and the next node's go into the unwritten rest. Assumes nothing.
-use Rattle.std.proofs.Common.{◌≡◌, ◌-◌, ◌≤◌, rules}
+use Rattle.std.proofs.Common.{◌≡◌, ◌-◌, ◌≤◌}
 use Rattle.wire.proofs.Laws.{Written}
 use Rattle.program.specs.Image.{rules_bytes}
 use Rattle.translation.specs.Turns.{next_to, rules_to}

@@ -1,5 +1,5 @@
 -- `write_pairs` writes the pairs' rules: before each turn those of the pairs passed are written. Assumes nothing.
-use Rattle.std.proofs.Common.{◌-◌, ◌≤◌, rules}
+use Rattle.std.proofs.Common.{◌-◌, ◌≤◌}
 use Rattle.wire.proofs.Laws.{Written}
 use Rattle.program.specs.Image.{rules_bytes}
 use Rattle.translation.specs.Turns.{pairs_to}
