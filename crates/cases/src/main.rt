@@ -7,17 +7,16 @@
 // printed as they stand; a line that is malformed is named by its number. The first 327,680 bytes of a script are run.
 #![tactic(auto)]
 
+ghost use Rattle.std.specs.Prelude.{◌≤◌, length, IfOk};
+
 use call::Call;
 use refusal::Answer;
-use std::io::{self, BufWriter, Read, Write};
+use std::io::{self, Read, Write};
 use words::Words;
 
 mod call;
 mod print;
 mod words;
-
-// How many bytes of a script are run.
-const MOST_READ: u64 = 327680;
 
 // How many bytes are kept of the last accepted translation and extension.
 #[derive(Drop)]
@@ -34,11 +33,24 @@ enum Outcome {
 }
 
 fn main(rt: HostRuntime) -> io::Result<()> {
-    let mut script = Vec::new(rt.alloc());
-    rt.stdin().take(MOST_READ).read_to_end(&mut script)?;
-    let mut writer = BufWriter::new(rt.alloc(), io::writer(&rt))?;
-    run(&mut writer, &script)?;
-    writer.flush()
+    let mut script = [0u8; 327680];
+    let length = read_full(&mut rt.stdin(), &mut script)?;
+    run(&mut io::writer(&rt), &script[..length])
+}
+
+// Reads until the buffer is full or the input ends, and gives how many bytes were read.
+fn read_full(reader: &mut impl Read, buffer: &mut [u8]) -> io::Result<usize>
+    ensures { IfOk result (λ n. n ≤ length buffer.new) }
+{
+    let mut length = 0;
+    while length < buffer.len() {
+        let read = reader.read(&mut buffer[length..])?;
+        if read == 0 {
+            return Ok(length);
+        }
+        length += read;
+    }
+    Ok(length)
 }
 
 // Runs the lines of the script one after the other.

@@ -1,25 +1,38 @@
 // Prints the answer sets of the theory image on standard input, or by which row it is refused.
 #![tactic(auto)]
 
-use std::io::{self, BufWriter, Read, Write};
+ghost use Rattle.std.specs.Prelude.{◌≤◌, length, IfOk};
 
-// The longest valid image has 7,184 bytes, so one byte more tells that the input is too long.
-const MOST_READ: u64 = 7185;
+use std::io::{self, Read, Write};
 
-// 4,096 sets of two bytes fill the room.
+// The longest valid image has 7,184 bytes, so one byte more tells that the input is too long. 4,096 sets of two bytes fill the room.
 fn main(rt: HostRuntime) -> io::Result<()> {
-    let mut theory = Vec::new(rt.alloc());
-    rt.stdin().take(MOST_READ).read_to_end(&mut theory)?;
-    let mut writer = BufWriter::new(rt.alloc(), io::writer(&rt))?;
+    let mut theory = [0u8; 7185];
+    let length = read_full(&mut rt.stdin(), &mut theory)?;
+    let mut writer = io::writer(&rt);
     let mut room = [0u8; 8192];
-    let answer = rulebook::rulebook_list_sets(&theory, &mut room);
+    let answer = rulebook::rulebook_list_sets(&theory[..length], &mut room);
     if answer.number != 0 {
-        print_refusal(&mut writer, answer.number, answer.place)?;
+        print_refusal(&mut writer, answer.number, answer.place)
     } else {
         print_count(&mut writer, answer.result)?;
-        print_sets(&mut writer, &room, answer.result)?;
+        print_sets(&mut writer, &room, answer.result)
     }
-    writer.flush()
+}
+
+// Reads until the buffer is full or the input ends, and gives how many bytes were read.
+fn read_full(reader: &mut impl Read, buffer: &mut [u8]) -> io::Result<usize>
+    ensures { IfOk result (λ n. n ≤ length buffer.new) }
+{
+    let mut length = 0;
+    while length < buffer.len() {
+        let read = reader.read(&mut buffer[length..])?;
+        if read == 0 {
+            return Ok(length);
+        }
+        length += read;
+    }
+    Ok(length)
 }
 
 // The one line of a refusal.
