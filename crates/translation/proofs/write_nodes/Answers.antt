@@ -37,7 +37,7 @@ write_node-at-requires c =
     let known = node-known A s c.args.count ok.0 k c.loop-k-test.true _ _ c.kinds-index.ensures c.kind_at-kind.ensures in
     let same = turn_rules A s c.args.count ok.0 c.args.terms.now ok.1 k c.loop-k-test.true _ _ _ c.kind_at-kind.ensures c.loop-k.invariant.1 c.slot_terms-filling.ensures in
     let room = turn_room c.loop-k.invariant.0 (fits c.args.packed A s k c.args.count _ c.loop-k-test.true c.requires.count_in_bounds) in
-    (record { rows = c.shapes-table.ensures; counts = c.kinds-index.ensures; known = known.row }, rw (← same) at room, ap (λ (l : List ℕ). get_or l 4 0) c.slot_terms-filling.ensures)
+    (record { rows = c.shapes-table.ensures; counts = c.kinds-index.ensures; known = omega arith }, rw (← same) at room, ap (λ (l : List ℕ). get_or l 4 0) c.slot_terms-filling.ensures)
 
 pub bounds-index-kind : goal.bounds-index-kind
 bounds-index-kind c =
