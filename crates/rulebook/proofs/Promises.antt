@@ -10,7 +10,7 @@ use Rattle.refusal.specs.First.{FirstAt}
 use Rattle.refusal.specs.Rows.{wrong, row10, argument_rows, reading_rows}
 use Rattle.refusal.proofs.Table.{answer-none, answer_exact, answer-unused, none_split}
 use Rattle.wire.specs.Wire.{Bytes}
-use Rattle.wire.specs.Outcome.{Outcome, outcome, written}
+use Rattle.wire.specs.Outcome.{outcome, written}
 use Rattle.wire.proofs.Outcome
 use Rattle.refusal.proofs.First.{first_is}
 use Rattle.logic.specs.declared.Value.{Value}
