@@ -7,8 +7,6 @@
 // printed as they stand; a line that is malformed is named by its number. The first 327,680 bytes of a script are run.
 #![tactic(auto)]
 
-ghost use Rattle.std.specs.Prelude.{◌≤◌, length, IfOk};
-
 use call::Call;
 use refusal::Answer;
 use std::io::{self, Read, Write};
@@ -34,23 +32,9 @@ enum Outcome {
 
 fn main(rt: HostRuntime) -> io::Result<()> {
     let mut script = [0u8; 327680];
-    let length = read_full(&mut rt.stdin(), &mut script)?;
+    let read = io::copy(&mut rt.stdin().take(327680), &mut &mut script[..])?;
+    let length = script.len().min(read as usize);
     run(&mut io::writer(&rt), &script[..length])
-}
-
-// Reads until the buffer is full or the input ends, and gives how many bytes were read.
-fn read_full(reader: &mut impl Read, buffer: &mut [u8]) -> io::Result<usize>
-    ensures { IfOk result (λ n. n ≤ length buffer.new) }
-{
-    let mut length = 0;
-    while length < buffer.len() {
-        let read = reader.read(&mut buffer[length..])?;
-        if read == 0 {
-            return Ok(length);
-        }
-        length += read;
-    }
-    Ok(length)
 }
 
 // Runs the lines of the script one after the other.

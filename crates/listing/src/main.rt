@@ -1,14 +1,13 @@
 // Prints the answer sets of the theory image on standard input, or by which row it is refused.
 #![tactic(auto)]
 
-ghost use Rattle.std.specs.Prelude.{◌≤◌, length, IfOk};
-
 use std::io::{self, Read, Write};
 
 // The longest valid image has 7,184 bytes, so one byte more tells that the input is too long. 4,096 sets of two bytes fill the room.
 fn main(rt: HostRuntime) -> io::Result<()> {
     let mut theory = [0u8; 7185];
-    let length = read_full(&mut rt.stdin(), &mut theory)?;
+    let read = io::copy(&mut rt.stdin().take(7185), &mut &mut theory[..])?;
+    let length = theory.len().min(read as usize);
     let mut writer = io::writer(&rt);
     let mut room = [0u8; 8192];
     let answer = rulebook::rulebook_list_sets(&theory[..length], &mut room);
@@ -18,21 +17,6 @@ fn main(rt: HostRuntime) -> io::Result<()> {
         print_count(&mut writer, answer.result)?;
         print_sets(&mut writer, &room, answer.result)
     }
-}
-
-// Reads until the buffer is full or the input ends, and gives how many bytes were read.
-fn read_full(reader: &mut impl Read, buffer: &mut [u8]) -> io::Result<usize>
-    ensures { IfOk result (λ n. n ≤ length buffer.new) }
-{
-    let mut length = 0;
-    while length < buffer.len() {
-        let read = reader.read(&mut buffer[length..])?;
-        if read == 0 {
-            return Ok(length);
-        }
-        length += read;
-    }
-    Ok(length)
 }
 
 // The one line of a refusal.
