@@ -4,12 +4,34 @@
 ghost use Rattle.std.specs.Prelude.{◌≡◌};
 ghost use Rattle.logic.specs.Value.{number, of_byte, smaller, larger, negation, implication};
 
-// What a formula is worth under a reading: true in neither world, only there, or in both.
-#[derive(Clone, Copy)]
+// What a formula is worth under a reading: true in neither world, only there, or in both. Later is larger.
+#[derive(Clone, Copy, Debug, PartialEq, Eq, PartialOrd, Ord)]
 pub enum Value {
     Neither,
     There,
     Both,
+}
+
+// The value that a byte of a reading stands for. Any byte but 0 and 1 stands for 2.
+impl From<u8> for Value {
+    ghost from_gives = { λ byte value. value ≡ of_byte byte };
+
+    fn from(byte: u8) -> Value {
+        match byte {
+            0 => Value::NEITHER,
+            1 => Value::THERE,
+            _ => Value::BOTH,
+        }
+    }
+}
+
+// The byte of a value: 0, 1 or 2.
+impl From<Value> for u8 {
+    ghost from_gives = { λ value byte. byte ≡ number value };
+
+    fn from(value: Value) -> u8 {
+        value as u8
+    }
 }
 
 impl Value {
@@ -20,50 +42,18 @@ impl Value {
 
     pub const BOTH: Value = Value::Both;
 
-    // The value that a byte of a reading stands for. Any byte but 0 and 1 stands for 2.
-    pub fn of_byte(b: u8) -> Value
-        ensures { result ≡ of_byte b }
-    {
-        if b == 0 {
-            return Value::NEITHER;
-        }
-        if b == 1 {
-            return Value::THERE;
-        }
-        Value::BOTH
-    }
-
-    // The byte of a value: 0, 1 or 2.
-    pub fn byte(self) -> u8
-        ensures { result ≡ number self }
-    {
-        match self {
-            Value::Neither => 0,
-            Value::There => 1,
-            Value::Both => 2,
-        }
-    }
-
     // The smaller of two values.
     pub fn and(self, other: Value) -> Value
         ensures { result ≡ smaller self other }
     {
-        if self.byte() <= other.byte() {
-            self
-        } else {
-            other
-        }
+        self.min(other)
     }
 
     // The larger of two values.
     pub fn or(self, other: Value) -> Value
         ensures { result ≡ larger self other }
     {
-        if other.byte() <= self.byte() {
-            self
-        } else {
-            other
-        }
+        self.max(other)
     }
 
     // 2 on 0, and else 0.
@@ -72,8 +62,7 @@ impl Value {
     {
         match self {
             Value::Neither => Value::BOTH,
-            Value::There => Value::NEITHER,
-            Value::Both => Value::NEITHER,
+            Value::There | Value::Both => Value::NEITHER,
         }
     }
 
@@ -81,10 +70,6 @@ impl Value {
     pub fn implies(self, other: Value) -> Value
         ensures { result ≡ implication self other }
     {
-        if self.byte() <= other.byte() {
-            Value::BOTH
-        } else {
-            other
-        }
+        if self <= other { Value::BOTH } else { other }
     }
 }

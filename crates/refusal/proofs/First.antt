@@ -1,8 +1,11 @@
 -- Laws of the first number at which a test holds, by induction on the bound; and what a loop that tries 0, 1, .. in turn needs of it. Assumes nothing.
-use mathlib.Core.Path.{◌≡◌, refl, sym, ap₂, ◌∙◌}
+use Rattle.std.proofs.Common.{Option, Some, None, find, position, length, get_or, add-zero, zero-add}
+use Rattle.std.proofs.lemmas.Option.{none-some, cond_some}
+use Rattle.std.specs.List.{position_or_len, range_with_len}
+use mathlib.Core.Path.{◌≡◌, refl, sym, ap, ap₂, ◌∙◌}
 use mathlib.Core.Logic.{◌↔◌, ⊎_elim}
 use mathlib.Core.Bool.{Bool, true, false, cond, true≢false}
-use mathlib.Core.List.{List, ◌∷◌}
+use mathlib.Core.List.{List, [], ◌∷◌}
 use Prim.Native.Nat.{ℕ, zero, suc, ◌+◌, ◌≤◌, ◌<◌}
 use native.Mathlib.Nat.{eq-or-lt_of_le, le_of_suc-le-suc, not-suc-le-zero}
 use native.Mathlib.Omega.{arith}
@@ -10,7 +13,7 @@ use lib.Dec.{ltb}
 use borrow.Author.Tests.{lt-ltb, le-ltb, ltb-true, ltb-false}
 use Rattle.refusal.specs.declared.Answer.{Answer}
 use Rattle.refusal.specs.Table.{Row, refused, answer}
-use Rattle.refusal.specs.First.{first, first_placed, FirstAt}
+use Rattle.refusal.specs.First.{first, found, first_placed, FirstAt}
 use Rattle.refusal.proofs.Table.{cases, Reached, reached_next, reached_refused}
 
 -- it is at most the bound
@@ -73,3 +76,47 @@ module _ (number : ℕ) (place : ℕ → ℕ) (test : ℕ → Bool) (n k : ℕ) 
 
   pub first_next : n ≤ k → Reached rows x rest
   first_next h = reached_next at (rw (← found) (le-ltb k n h))
+
+-- the first index of a list at which a test holds is the library's
+position-first : {S : Type 0} (p : S → Bool) (d : S) (xs : List S) → position_or_len p xs ≡ first (λ i. p (get_or xs i d)) (length xs)
+unfolding first
+position-first p d [] = refl
+position-first p d (x ∷ xs) = cases (p x) (λ t. rw t refl) (λ t. rw (t, position-first p d xs) (omega arith))
+
+-- a number that is below the bound
+abbrev pub below : (k n : ℕ) → Option ℕ
+below k n = cond (ltb k n) (Some k) None
+
+-- the first index of a list at which a test holds is the library's,
+pub position-below : {S : Type 0} (p : S → Bool) (d : S) (xs : List S) → position p xs ≡ below (first (λ i. p (get_or xs i d)) (length xs)) (length xs)
+position-below p d xs = rw (position-first p d xs) refl
+
+-- and so is the first of some numbers in turn
+find-first : (test : ℕ → Bool) (a n : ℕ)
+    → find test (range_with_len a n) ≡ cond (ltb (first (λ k. test (a + k)) n) n) (Some (a + first (λ k. test (a + k)) n)) None
+unfolding first
+find-first test a zero = refl
+find-first test a (suc n) =
+    cases (test a)
+    (λ t. rw (add-zero, t, add-zero, lt-ltb 0 (suc n) (omega arith)) refl)
+    (λ t. rw (add-zero, t) (find-first test (a + 1) n ∙ rw (first_equal (λ k. test (a + 1 + k)) (λ k. test (a + suc k)) n (λ k l. ap test (omega arith))) (on (first (λ k. test (a + suc k)) n))))
+  where
+    on : (k : ℕ) → cond (ltb k n) (Some (a + 1 + k)) None ≡ cond (ltb (suc k) (suc n)) (Some (a + suc k)) None
+    on k =
+        cases (ltb k n)
+        (λ t. rw (t, lt-ltb (suc k) (suc n) (omega (arith, ltb-true k n t))) (ap Some (omega arith)))
+        (λ t. rw (t, le-ltb (suc k) (suc n) (omega (arith, ltb-false k n t))) refl)
+
+pub found-below : (test : ℕ → Bool) (n : ℕ) → found test n ≡ below (first test n) n
+found-below test n = find-first test 0 n ∙ rw (first_equal (λ k. test (0 + k)) test n (λ k l. ap test (zero-add k)), zero-add) refl
+
+-- the row of the first such number, where a search has given it: it refuses with the place made from that number, and where there is none it is past
+module _ (number : ℕ) (place : ℕ → ℕ) (test : ℕ → Bool) (n : ℕ) {o : Option ℕ} (searched : o ≡ below (first test n) n)
+    {rows rest : List Row} {x : ℕ} (at : Reached rows x (first_placed number place test n ∷ rest)) where
+  pub searched-refused : (k : ℕ) → o ≡ Some k → {a : Answer} → a ≡ refused number (place k) → a ≡ answer rows x
+  searched-refused k e {a} r =
+      let s = cond_some (ltb (first test n) n) (first test n) k (sym searched ∙ e) in
+      reached_refused at s.0 (r ∙ ap (λ j. refused number (place j)) (sym s.1))
+
+  pub searched_next : o ≡ None → Reached rows x rest
+  searched_next e = reached_next at (cases (ltb (first test n) n) (λ t. absurd (none-some (first test n) (sym e ∙ searched ∙ rw t refl))) (λ t. t))

@@ -1,3 +1,4 @@
 pub mod Table
 pub mod First
 pub mod Rows
+pub mod Decided

@@ -1,9 +1,10 @@
 -- Laws of the rows about a call's arguments, each from the definition of its row. Assumes nothing.
+use Rattle.std.proofs.Common.{count_by, add_comm, add-one}
+use Rattle.std.proofs.lemmas.List.Recursion.{is_count_by}
 use mathlib.Core.Path.{◌≡◌, refl}
 use mathlib.Core.Bool.{Bool, true, false, cond}
 use mathlib.Core.List.{List}
 use Prim.Native.Nat.{ℕ, suc, ◌+◌, ◌<◌}
-use native.Mathlib.Numerals.{add-one}
 use lib.Dec.{eqb}
 use lib.ListN.{length, get_or, drop}
 use lib.Seq.{drop-cons}
@@ -37,3 +38,8 @@ pub argument_rows-none : (candidate : Bool) (count : ℕ) (bytes : List ℕ) →
     → ((i : ℕ) → i < length bytes → wrong candidate (get_or bytes i 0) ≡ false) → none (argument_rows candidate count bytes) ≡ true
 unfolding argument_rows
 argument_rows-none candidate count bytes e h = rw (eq-eqb (length bytes) count e, (first-none (λ i. wrong candidate (get_or bytes i 0)) (length bytes)).1 h)
+
+-- they are counted as the library counts
+pub count_true-count_by : (bytes : List ℕ) → count_true bytes ≡ count_by (λ byte. eqb byte 2) bytes
+unfolding count_true
+count_true-count_by = is_count_by count_true (λ byte. eqb byte 2) refl (λ byte bytes. rw (add_comm 1 (count_true bytes), add-one) refl)

@@ -53,18 +53,24 @@ pub answer_at : (before : List Row) (r : Row) (after : List Row) (x : ℕ) → n
     → answer (before ++ r ∷ after) x ≡ refused r.number r.place
 answer_at before r after x h t = answer_past before (r ∷ after) x h ∙ rw t
 
--- A walk along the rows that has come to `rest`: the rows before leave the answer to these.
+-- rows of which none applies leave it to those behind whether one does
+pub none_past : (rs qs : List Row) → none rs ≡ true → none (rs ++ qs) ≡ none qs
+none_past [] qs n = refl
+none_past (r ∷ rs) qs n = let t = none-cons r rs n in rw t.0 (none_past rs qs t.1)
+
+-- A walk along the rows that has come to `rest`: the rows before leave the answer to these, and whether one applies.
 pub record Reached (rows : List Row) (x : ℕ) (rest : List Row) : Type 0 where
   pub same : answer rows x ≡ answer rest x
+  pub clear : none rows ≡ none rest
 
 -- it begins at the first
 pub reached_first : (rows : List Row) (x : ℕ) → Reached rows x rows
-reached_first rows x = record { same = refl }
+reached_first rows x = record { same = refl; clear = refl }
 
 module _ {rows rest : List Row} {x : ℕ} {r : Row} (at : Reached rows x (r ∷ rest)) where
   -- a row that does not apply leaves the answer to those behind it,
   pub reached_next : r.applies ≡ false → Reached rows x rest
-  reached_next h = record { same = at.same ∙ rw h }
+  reached_next h = record { same = at.same ∙ rw h; clear = at.clear ∙ rw h }
 
   -- and one that applies refuses
   pub reached_refused : r.applies ≡ true → {a : Answer} → a ≡ refused r.number r.place → a ≡ answer rows x
@@ -72,9 +78,13 @@ module _ {rows rest : List Row} {x : ℕ} {r : Row} (at : Reached rows x (r ∷ 
 
 -- it passes rows of which none applies
 pub reached_past : (rs qs : List Row) (x : ℕ) → none rs ≡ true → Reached (rs ++ qs) x qs
-reached_past rs qs x n = record { same = answer_past rs qs x n }
+reached_past rs qs x n = record { same = answer_past rs qs x n; clear = none_past rs qs n }
 
--- behind the last, the result is accepted
+-- behind the last, none of the rows applies
+pub reached_none : {rows : List Row} {x : ℕ} → Reached rows x [] → none rows ≡ true
+reached_none at = at.clear
+
+-- and the result is accepted
 pub reached_accepted : {rows : List Row} {x : ℕ} → Reached rows x [] → {a : Answer} → a ≡ accepted x → a ≡ answer rows x
 reached_accepted at e = e ∙ sym at.same
 
@@ -90,11 +100,6 @@ answer_any rs x y e h = rw append-nil at (answer-refused rs [] x y e h)
 -- a refusal by later rows stands, where none of the first applies
 pub answer_later : (rs qs : List Row) (x y : ℕ) → none rs ≡ true → {a : Answer} → a ≡ answer qs x → (a.number ≡ 0 → ⊥) → a ≡ answer (rs ++ qs) y
 answer_later rs qs x y n e h = answer_any qs x y e h ∙ sym (answer_past rs qs y n)
-
--- rows of which none applies leave it to those behind whether one does
-pub none_past : (rs qs : List Row) → none rs ≡ true → none (rs ++ qs) ≡ none qs
-none_past [] qs n = refl
-none_past (r ∷ rs) qs n = let t = none-cons r rs n in rw t.0 (none_past rs qs t.1)
 
 -- where no row of two lists applies, none of either does
 pub none_split : (rs qs : List Row) → none (rs ++ qs) ≡ true → (none rs ≡ true) × (none qs ≡ true)

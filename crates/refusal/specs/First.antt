@@ -1,11 +1,16 @@
 -- The first of the numbers below a bound at which a test holds, and the row whose place that is.
-use Rattle.std.specs.Prelude.{◌≡◌, Bool, true, false, cond, ℕ, zero, suc, ◌<◌, ltb}
+use Rattle.std.specs.Prelude.{◌≡◌, Bool, true, false, cond, ℕ, zero, suc, ◌<◌, ltb, Option, find}
+use Rattle.std.specs.List.{range_with_len}
 use Rattle.refusal.specs.Table.{Row}
 
 -- the first number below n at which the test holds, and n where there is none
 unfoldable pub first : (ℕ → Bool) → ℕ → ℕ
 first test zero = 0
 first test (suc n) = cond (test 0) 0 (suc (first (λ k. test (suc k)) n))
+
+-- that number where there is one: the numbers from 0 on are searched
+abbrev pub found : (ℕ → Bool) → ℕ → Option ℕ
+found test n = find test (range_with_len 0 n)
 
 -- the row with this number that applies where the test holds at some number below n; its place is made from the first such
 abbrev pub first_placed : ℕ → (place : ℕ → ℕ) → (ℕ → Bool) → ℕ → Row

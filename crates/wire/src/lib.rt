@@ -9,7 +9,7 @@ pub fn u16_at(s: &[u8], i: usize) -> usize
     requires { i + 2 ≤ length s.now }
     ensures { (result ≡ u16_at s.now i) × (result < 65536) }
 {
-    wide(s[i]) + wide(s[i + 1]) * 256
+    usize::from(u16::from_le_bytes([s[i], s[i + 1]]))
 }
 
 // The number of four bytes at index `i`.
@@ -20,30 +20,18 @@ pub fn u32_at(s: &[u8], i: usize) -> usize
     u16_at(s, i) + u16_at(s, i + 2) * 65536
 }
 
-// A byte as a number.
-pub fn wide(byte: u8) -> usize
-    ensures { (result ≡ byte) × (result < 256) }
-{
-    byte as usize
-}
-
 // The two bytes of a number below 65,536.
 pub fn u16_bytes(n: usize) -> [u8; 2]
     ensures { result ≡ u16_bytes n }
 {
-    [(n % 256) as u8, (n / 256 % 256) as u8]
+    ((n % 65536) as u16).to_le_bytes()
 }
 
 // The four bytes of a number below 4,294,967,296.
 pub fn u32_bytes(n: usize) -> [u8; 4]
     ensures { result ≡ u32_bytes n }
 {
-    [
-        (n % 256) as u8,
-        (n / 256 % 256) as u8,
-        (n / 65536 % 256) as u8,
-        (n / 65536 / 256 % 256) as u8,
-    ]
+    ((n % 4294967296) as u32).to_le_bytes()
 }
 
 // Writes `bytes` over the start of `out`, and gives how many they are.
@@ -52,10 +40,6 @@ pub fn put(out: &mut [u8], bytes: &[u8]) -> usize
     ensures value { result ≡ length bytes.now }
     ensures out_after { out.new ≡ over bytes.now out.old }
 {
-    let mut i = 0;
-    while i < bytes.len() {
-        out[i] = bytes[i];
-        i += 1;
-    }
-    i
+    out[..bytes.len()].copy_from_slice(bytes);
+    bytes.len()
 }
