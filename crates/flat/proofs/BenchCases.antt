@@ -8,7 +8,7 @@ use lib.ListN.{take}
 use Rattle.logic.specs.Atoms.{Atoms}
 use Rattle.logic.specs.AnswerSet.{AnswerSet, answer_sets}
 use Rattle.logic.proofs.AnswerSets.{answer_sets_iff}
-use Rattle.theory.specs.Book.{Kind, atom_kind, or_kind, Node, Book, WellFormed, book_formulas}
+use Rattle.theory.specs.Book.{Kind, Atom, Or, Node, Book, WellFormed, book_formulas}
 use Rattle.theory.specs.BenchCases.{BenchCase, bench_cases, atoms_from, sets_of}
 use Rattle.theory.proofs.BenchCases.{case-sets, case_well_formed}
 use Rattle.program.specs.Rule.{Rule}
@@ -41,7 +41,7 @@ paired_p3 =
     let node : Kind → ℕ → ℕ → Node = λ k l r. record { kind = k; left = l; right = r } in
     record {
       atoms = 2;
-      nodes = node atom_kind 0 0 ∷ node atom_kind 1 0 ∷ node or_kind 0 1 ∷ [];
+      nodes = node Atom 0 0 ∷ node Atom 1 0 ∷ node Or 0 1 ∷ [];
       roots = 2 ∷ [];
       pairs = record { first = 0; second = 1 } ∷ [];
     }

@@ -18,7 +18,7 @@ use Rattle.logic.proofs.Bools.{&&_split}
 use Rattle.logic.proofs.Finite.{same, same_sound, same_refl}
 use Rattle.logic.proofs.Values.{up}
 use Rattle.logic.proofs.Formulas.{values_up}
-use Rattle.theory.specs.Book.{Kind, false_kind, true_kind, atom_kind, not_kind, and_kind, or_kind, implies_kind, Node, node_at, Book, left_limit, right_limit, WellFormed, formula_at, formula, formulas, node_formulas}
+use Rattle.theory.specs.Book.{Kind, False, True, Atom, Not, And, Or, Implies, Node, node_at, Book, left_limit, right_limit, WellFormed, formula_at, formula, formulas, node_formulas}
 use Rattle.theory.proofs.Books.{all_fit_at, length-formulas, formulas-keep, formulas_split, formulas_at}
 use Rattle.flat.specs.Table.{label_count}
 use Rattle.flat.specs.Flat.{label_total, flat}
@@ -69,13 +69,13 @@ labels_at fs (n ∷ ns) (suc k) i h l =
     rw (add_assoc, ← e) (get_or-append-add (labels fs n) (labels_from fs' ns) (label_total (take k ns) + i) falsum ∙ labels_at fs' ns k i (omega arith) l)
 
 meaning_L : (k : Kind) (f g : Formula) → 0 < label_count k → get_or (meanings k f g) 0 falsum ≡ f
-meaning_L false_kind f g h = absurd (omega arith)
-meaning_L true_kind f g h = absurd (omega arith)
-meaning_L atom_kind f g h = absurd (omega arith)
-meaning_L not_kind f g h = refl
-meaning_L and_kind f g h = refl
-meaning_L or_kind f g h = refl
-meaning_L implies_kind f g h = refl
+meaning_L False f g h = absurd (omega arith)
+meaning_L True f g h = absurd (omega arith)
+meaning_L Atom f g h = absurd (omega arith)
+meaning_L Not f g h = refl
+meaning_L And f g h = refl
+meaning_L Or f g h = refl
+meaning_L Implies f g h = refl
 
 module _ (b : Book) (ok : WellFormed b) (I : Reading) (e : length I ≡ b.atoms) (k : ℕ) (h : k < length b.nodes) where
   -- L of a node that takes labels holds the node's value.
@@ -89,7 +89,7 @@ module _ (b : Book) (ok : WellFormed b) (I : Reading) (e : length I ≡ b.atoms)
       ∙ sym (formulas_at [] b.nodes k h) ∙ ap (formula_at (node_formulas b)) (zero-add k))
 
   -- M of an implication holds the value of not its right side.
-  pub label_M : (node_at b.nodes k).kind ≡ implies_kind
+  pub label_M : (node_at b.nodes k).kind ≡ Implies
       → value_of (extend b I) (suc (first_label b k)) ≡ negation (value I (formula_at (node_formulas b) (node_at b.nodes k).right))
   label_M m =
       let fs = formulas [] (take k b.nodes) in

@@ -7,7 +7,7 @@ use Rattle.logic.specs.Value.{smaller, larger, negation, implication}
 use Rattle.logic.specs.Formula.{Reading, value_of}
 use Rattle.logic.proofs.Bools.{beq_sound}
 use Rattle.logic.proofs.Finite.{every, same, agree₄}
-use Rattle.theory.specs.Book.{Kind, false_kind, true_kind, atom_kind, not_kind, and_kind, or_kind, implies_kind}
+use Rattle.theory.specs.Book.{Kind, False, True, Atom, Not, And, Or, Implies}
 use Rattle.program.specs.Rule.{all_hold}
 use Rattle.flat.specs.Table.{Slot, x, y, L, M, rows}
 use Rattle.flat.specs.Flat.{Term, fill, instances}
@@ -22,18 +22,18 @@ slots a b l m M = m
 
 -- L has the node's value l, where left has the value a and right b, and M has that of not right.
 abbrev pub labelled : Kind → (a b l m : Value) → Bool
-labelled false_kind a b l m = true
-labelled true_kind a b l m = true
-labelled atom_kind a b l m = true
-labelled not_kind a b l m = same l (negation a)
-labelled and_kind a b l m = same l (smaller a b)
-labelled or_kind a b l m = same l (larger a b)
-labelled implies_kind a b l m = same l (implication a b) && same m (negation b)
+labelled False a b l m = true
+labelled True a b l m = true
+labelled Atom a b l m = true
+labelled Not a b l m = same l (negation a)
+labelled And a b l m = same l (smaller a b)
+labelled Or a b l m = same l (larger a b)
+labelled Implies a b l m = same l (implication a b) && same m (negation b)
 
 table : (k : Kind) (a b l m : Value) → all_hold (slots a b l m) (rows k) ≡ labelled k a b l m
 table k = agree₄ beq beq_sound (λ a b l m. all_hold (slots a b l m) (rows k)) (labelled k)
     (elim k as (λ k'. every (λ a. every (λ b. every (λ c. every (λ d. beq (all_hold (slots a b c d) (rows k')) (labelled k' a b c d))))) ≡ true)
-    [ false_kind ↦ refl | true_kind ↦ refl | atom_kind ↦ refl | not_kind ↦ refl | and_kind ↦ refl | or_kind ↦ refl | implies_kind ↦ refl ])
+    [ False ↦ refl | True ↦ refl | Atom ↦ refl | Not ↦ refl | And ↦ refl | Or ↦ refl | Implies ↦ refl ])
 
 pub one_node : (J : Reading) (k : Kind) (left right : Term) (next : ℕ)
     → all_hold (value_of J) (instances (fill left right next) (rows k)) ≡ labelled k (term_value J left) (term_value J right) (value_of J next) (value_of J (suc next))

@@ -13,7 +13,7 @@ use Rattle.logic.specs.Value.{number, smaller, larger, negation, true_here}
 use Rattle.logic.specs.Formula.{Formula, falsum, neg, Reading, value_of, value, satisfies}
 use Rattle.logic.proofs.Bools.{beq_sound, &&_split, &&_if}
 use Rattle.logic.proofs.Finite.{same, same_sound, agree₁, agree₂}
-use Rattle.theory.specs.Book.{Kind, false_kind, true_kind, atom_kind, not_kind, and_kind, or_kind, implies_kind, Node, Pair, left_limit, left_fits, right_fits, fits, all_fit, pair_fits, pairs_fit, say, formula_at, formula, formulas, pair_formula}
+use Rattle.theory.specs.Book.{Kind, False, True, Atom, Not, And, Or, Implies, Node, Pair, left_limit, left_fits, right_fits, fits, all_fit, pair_fits, pairs_fit, say, formula_at, formula, formulas, pair_formula}
 use Rattle.theory.proofs.PairLaws.{pair-below}
 use Rattle.program.specs.Rule.{all_hold}
 use Rattle.program.proofs.Rules.{all_hold-append}
@@ -44,35 +44,35 @@ pair-value : (a b : Value) → leb (number (smaller (smaller a (smaller b Both))
 pair-value = agree₂ beq beq_sound (λ a b. leb (number (smaller (smaller a (smaller b Both)) Both)) 0) (λ a b. true_here (negation (smaller a b))) refl
 
 pub length-meanings : (k : Kind) (f g : Formula) → length (meanings k f g) ≡ label_count k
-length-meanings false_kind f g = refl
-length-meanings true_kind f g = refl
-length-meanings atom_kind f g = refl
-length-meanings not_kind f g = refl
-length-meanings and_kind f g = refl
-length-meanings or_kind f g = refl
-length-meanings implies_kind f g = refl
+length-meanings False f g = refl
+length-meanings True f g = refl
+length-meanings Atom f g = refl
+length-meanings Not f g = refl
+length-meanings And f g = refl
+length-meanings Or f g = refl
+length-meanings Implies f g = refl
 
 -- I reads the book's A atoms as J does.
 module _ (A : ℕ) (I J : Reading) (low : (a : ℕ) → a < A → value_of J a ≡ value_of I a) where
   labelled_agree : (k : Kind) (a next : ℕ) (f g : Formula)
       → labelled k (value I f) (value I g) (value_of J next) (value_of J (suc next)) ≡ agree J next (map (value I) (meanings k (say k a f g) g))
-  labelled_agree false_kind a next f g = refl
-  labelled_agree true_kind a next f g = refl
-  labelled_agree atom_kind a next f g = refl
-  labelled_agree not_kind a next f g = sym (and-true _)
-  labelled_agree and_kind a next f g = sym (and-true _)
-  labelled_agree or_kind a next f g = sym (and-true _)
-  labelled_agree implies_kind a next f g = simp and-true
+  labelled_agree False a next f g = refl
+  labelled_agree True a next f g = refl
+  labelled_agree Atom a next f g = refl
+  labelled_agree Not a next f g = sym (and-true _)
+  labelled_agree And a next f g = sym (and-true _)
+  labelled_agree Or a next f g = sym (and-true _)
+  labelled_agree Implies a next f g = simp and-true
 
   term-value : (k : Kind) (a i next : ℕ) (f g : Formula) → ltb a (left_limit A i k) ≡ true
       → agree J next (map (value I) (meanings k (say k a f g) g)) ≡ true → term_value J (term_of next k a) ≡ value I (say k a f g)
-  term-value false_kind a i next f g ok h = refl
-  term-value true_kind a i next f g ok h = refl
-  term-value atom_kind a i next f g ok h = low a (ltb-true a A ok)
-  term-value not_kind a i next f g ok h = agree_first J next (value I (neg f)) [] h
-  term-value and_kind a i next f g ok h = agree_first J next (value I (say and_kind a f g)) [] h
-  term-value or_kind a i next f g ok h = agree_first J next (value I (say or_kind a f g)) [] h
-  term-value implies_kind a i next f g ok h = agree_first J next (value I (say implies_kind a f g)) (value I (neg g) ∷ []) h
+  term-value False a i next f g ok h = refl
+  term-value True a i next f g ok h = refl
+  term-value Atom a i next f g ok h = low a (ltb-true a A ok)
+  term-value Not a i next f g ok h = agree_first J next (value I (neg f)) [] h
+  term-value And a i next f g ok h = agree_first J next (value I (say And a f g)) [] h
+  term-value Or a i next f g ok h = agree_first J next (value I (say Or a f g)) [] h
+  term-value Implies a i next f g ok h = agree_first J next (value I (say Implies a f g)) (value I (neg g) ∷ []) h
 
   -- The terms have the values of the formulas.
   abbrev Sound : List Term → List Formula → Type 0

@@ -12,7 +12,7 @@ use borrow.Author.Tests.{eq-eqb, ne_eqb}
 use Rattle.refusal.specs.Limits.{most_atoms, most_nodes, most_roots, most_pairs}
 use Rattle.refusal.proofs.Table.{cases}
 use Rattle.logic.proofs.Bools.{&&_split, ||-iff}
-use Rattle.theory.specs.Book.{Kind, atom_kind, implies_kind, Node, Book, fits, all_fit, WellFormed}
+use Rattle.theory.specs.Book.{Kind, Atom, Implies, Node, Book, fits, all_fit, WellFormed}
 use Rattle.theory.specs.Used.{all_operands, among, used}
 use Rattle.theory.proofs.Books.{fits-left, fits-right}
 use Rattle.program.specs.Rule.{RuleOf}
@@ -84,13 +84,13 @@ rules_bound b ok few-nodes few-roots few-pairs =
 -- After node k, n times that the node before implies itself.
 abbrev chain : (k n : ℕ) → List Node
 chain k zero = []
-chain k (suc n) = record { kind = implies_kind; left = k; right = k } ∷ chain (suc k) n
+chain k (suc n) = record { kind = Implies; left = k; right = k } ∷ chain (suc k) n
 
 -- An atom, such a chain behind it, the last node as every root, and as many pairs as may be.
 abbrev fullest : Book
 fullest = record {
   atoms = most_atoms;
-  nodes = record { kind = atom_kind; left = 0; right = 0 } ∷ chain 0 (most_nodes - 1);
+  nodes = record { kind = Atom; left = 0; right = 0 } ∷ chain 0 (most_nodes - 1);
   roots = replicate most_roots (most_nodes - 1);
   pairs = replicate most_pairs (record { first = 0; second = 1 });
 }

@@ -1,7 +1,7 @@
 -- What the labels stand for, and the extension of a reading to them.
 use Rattle.std.specs.Prelude.{◌≡◌, List, [], ◌∷◌, ◌++◌, map, ℕ, ◌+◌, length, take}
 use Rattle.logic.specs.Formula.{Formula, neg, Reading, value}
-use Rattle.theory.specs.Book.{Kind, false_kind, true_kind, atom_kind, not_kind, and_kind, or_kind, implies_kind, Node, Book, formula_at, formula}
+use Rattle.theory.specs.Book.{Kind, False, True, Atom, Not, And, Or, Implies, Node, Book, formula_at, formula}
 use Rattle.flat.specs.Flat.{label_total, flat}
 
 -- J is an extension of I, a reading of the book's atoms, to the labels.
@@ -15,13 +15,13 @@ first_label b k = b.atoms + label_total (take k b.nodes)
 
 -- What the labels of a kind stand for, where the node has the formula f and its right side g: L for f, M for the negation of g.
 abbrev pub meanings : Kind → (f g : Formula) → List Formula
-meanings false_kind f g = []
-meanings true_kind f g = []
-meanings atom_kind f g = []
-meanings not_kind f g = f ∷ []
-meanings and_kind f g = f ∷ []
-meanings or_kind f g = f ∷ []
-meanings implies_kind f g = f ∷ neg g ∷ []
+meanings False f g = []
+meanings True f g = []
+meanings Atom f g = []
+meanings Not f g = f ∷ []
+meanings And f g = f ∷ []
+meanings Or f g = f ∷ []
+meanings Implies f g = f ∷ neg g ∷ []
 
 -- What the labels of a node stand for, where the nodes before it have the formulas fs.
 abbrev pub labels : List Formula → Node → List Formula

@@ -1,7 +1,7 @@
 -- The flat program of a book.
 use Rattle.std.specs.Prelude.{Bool, true, false, ◌||◌, cond, List, [], ◌∷◌, ◌++◌, map, ℕ, suc, ◌+◌, ◌*◌, ◌-◌, get_or}
 use Rattle.refusal.specs.Limits.{most_atoms, most_nodes, most_roots, most_pairs}
-use Rattle.theory.specs.Book.{Kind, false_kind, true_kind, atom_kind, not_kind, and_kind, or_kind, implies_kind, Node, Pair, Book}
+use Rattle.theory.specs.Book.{Kind, False, True, Atom, Not, And, Or, Implies, Node, Pair, Book}
 use Rattle.program.specs.Rule.{RuleOf, Rule}
 use Rattle.program.specs.Program.{Program}
 use Rattle.flat.specs.Table.{Slot, x, y, L, M, rows, label_count}
@@ -67,13 +67,13 @@ node_rules ts next n = instances (fill (term_at ts n.left) (term_at ts n.right) 
 
 -- The term of a node whose labels start at `next`: a constant, its atom or its label L.
 abbrev pub term_of : (next : ℕ) → Kind → (left : ℕ) → Term
-term_of next false_kind a = constant false
-term_of next true_kind a = constant true
-term_of next atom_kind a = name a
-term_of next not_kind a = name next
-term_of next and_kind a = name next
-term_of next or_kind a = name next
-term_of next implies_kind a = name next
+term_of next False a = constant false
+term_of next True a = constant true
+term_of next Atom a = name a
+term_of next Not a = name next
+term_of next And a = name next
+term_of next Or a = name next
+term_of next Implies a = name next
 
 abbrev pub term : (next : ℕ) → Node → Term
 term next n = term_of next n.kind n.left

@@ -23,7 +23,7 @@ use Rattle.logic.specs.AnswerSet.{AnswerSet, is_answer_set, answer_sets}
 use Rattle.logic.proofs.Values
 use Rattle.logic.proofs.Worlds
 use Rattle.logic.proofs.AnswerSets
-use Rattle.theory.specs.Book.{Pair, Book, node_at, implies_kind, pair_fits, WellFormed, formula_at, node_formulas, pair_formula, book_formulas}
+use Rattle.theory.specs.Book.{Pair, Book, node_at, Implies, pair_fits, WellFormed, formula_at, node_formulas, pair_formula, book_formulas}
 use Rattle.theory.specs.BenchCases.{BenchCase, bench_cases, atoms_from, sets_of, uses_of, use_cases}
 use Rattle.theory.specs.Image.{atom_count, node_count, root_count, pair_count, node_section, root_section, pair_section, field_wrong, breaks, root_in, pair_in, book_of}
 use Rattle.theory.specs.Used.{operands, used}
@@ -313,7 +313,7 @@ module _ (b : Book) (ok : WellFormed b) where
       → value_of (extension b I) (first_label b k) ≡ value I (formula_at (node_formulas b) k)
   label_L = Extensions.label_L b ok
 
-  label_M : (I : Reading) → length I ≡ b.atoms → (k : ℕ) → k < length b.nodes → (node_at b.nodes k).kind ≡ implies_kind
+  label_M : (I : Reading) → length I ≡ b.atoms → (k : ℕ) → k < length b.nodes → (node_at b.nodes k).kind ≡ Implies
       → value_of (extension b I) (suc (first_label b k)) ≡ negation (value I (formula_at (node_formulas b) (node_at b.nodes k).right))
   label_M = Extensions.label_M b ok
 

@@ -6,19 +6,19 @@ use Prim.Native.Nat.{ℕ, zero, suc, ◌<◌}
 use native.Mathlib.Omega.{arith}
 use lib.Dec.{ltb, eqb}
 use borrow.Author.Tests.{le-ltb, ne_eqb}
-use Rattle.theory.specs.Book.{Kind, false_kind, true_kind, atom_kind, not_kind, and_kind, or_kind, implies_kind, left_limit, right_limit}
+use Rattle.theory.specs.Book.{Kind, False, True, Atom, Not, And, Or, Implies, left_limit, right_limit}
 use Rattle.theory.specs.Image.{kind_of}
 use Rattle.theory.specs.Used.{operands_of}
 
 -- A byte over 5 is that of the last kind.
-pub kind_of_last : (b : ℕ) → 5 < b → kind_of b ≡ implies_kind
+pub kind_of_last : (b : ℕ) → 5 < b → kind_of b ≡ Implies
 kind_of_last b h =
     let other : (n : ℕ) → n < b → eqb b n ≡ false = λ n l. ne_eqb b n (λ e. omega arith) in
     simp (other 0 (omega arith), other 1 (omega arith), other 2 (omega arith), other 3 (omega arith), other 4 (omega arith), other 5 (omega arith))
 
 -- What holds of the bytes 0 to 5 with their kinds, and of every byte over 5 with the last kind, holds of every byte with its kind.
-by_byte : (P : ℕ → Kind → Type 0) → P 0 false_kind → P 1 true_kind → P 2 atom_kind → P 3 not_kind → P 4 and_kind → P 5 or_kind
-    → ((b : ℕ) → 5 < b → P b implies_kind) → (b : ℕ) → P b (kind_of b)
+by_byte : (P : ℕ → Kind → Type 0) → P 0 False → P 1 True → P 2 Atom → P 3 Not → P 4 And → P 5 Or
+    → ((b : ℕ) → 5 < b → P b Implies) → (b : ℕ) → P b (kind_of b)
 by_byte P p₀ p₁ p₂ p₃ p₄ p₅ over zero = p₀
 by_byte P p₀ p₁ p₂ p₃ p₄ p₅ over (suc zero) = p₁
 by_byte P p₀ p₁ p₂ p₃ p₄ p₅ over (suc (suc zero)) = p₂

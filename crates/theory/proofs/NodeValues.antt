@@ -12,19 +12,19 @@ use Rattle.wire.specs.Wire.{over}
 use Rattle.wire.specs.Sequence.{up_to}
 use Rattle.wire.proofs.Laws.{over_store}
 use Rattle.wire.proofs.Sequence.{up_to-none, length-up_to}
-use Rattle.theory.specs.Book.{Kind, false_kind, true_kind, atom_kind, not_kind, and_kind, or_kind, implies_kind, Node, say, formula, formulas}
+use Rattle.theory.specs.Book.{Kind, False, True, Atom, Not, And, Or, Implies, Node, say, formula, formulas}
 use Rattle.theory.specs.Image.{node_count, node_section, node_in, book_of}
 use Rattle.theory.specs.NodeValues.{worth, value_from, values_to, node_values}
 use Rattle.theory.proofs.Books.{length-formulas, formulas-up_to}
 
 value-say : (I : Reading) (k : Kind) (a : ℕ) (f g : Formula) → value I (say k a f g) ≡ worth k (value_of I a) (value I f) (value I g)
-value-say I false_kind a f g = refl
-value-say I true_kind a f g = refl
-value-say I atom_kind a f g = refl
-value-say I not_kind a f g = refl
-value-say I and_kind a f g = refl
-value-say I or_kind a f g = refl
-value-say I implies_kind a f g = refl
+value-say I False a f g = refl
+value-say I True a f g = refl
+value-say I Atom a f g = refl
+value-say I Not a f g = refl
+value-say I And a f g = refl
+value-say I Or a f g = refl
+value-say I Implies a f g = refl
 
 pub value-formula : (I : Reading) (fs : List Formula) (n : Node) → value I (formula fs n) ≡ value_from I (map (value I) fs) n
 value-formula I fs n =

@@ -19,19 +19,19 @@ use Rattle.logic.proofs.Bools.{&&_split, &&_join, ||-iff}
 use Rattle.wire.specs.Wire.{all_below}
 use Rattle.wire.specs.Sequence.{up_to}
 use Rattle.wire.proofs.Sequence.{up_to_more}
-use Rattle.theory.specs.Book.{Kind, false_kind, true_kind, atom_kind, not_kind, and_kind, or_kind, implies_kind, Node, Book, node_at, left_limit, right_limit, fits, WellFormed}
+use Rattle.theory.specs.Book.{Kind, False, True, Atom, Not, And, Or, Implies, Node, Book, node_at, left_limit, right_limit, fits, WellFormed}
 use Rattle.theory.specs.Used.{operands_of, operands, all_operands, among, used}
 use Rattle.theory.specs.Marks.{marked}
 use Rattle.theory.proofs.Books.{fits-left, fits-right, all_fit_at}
 
 operands_of-below : (A k : ℕ) (kind : Kind) (l r : ℕ) → l < left_limit A k kind → r < right_limit k kind → all_below k (operands_of kind l r) ≡ true
-operands_of-below A k false_kind l r h g = refl
-operands_of-below A k true_kind l r h g = refl
-operands_of-below A k atom_kind l r h g = refl
-operands_of-below A k not_kind l r h g = &&_join (lt-ltb l k h) refl
-operands_of-below A k and_kind l r h g = &&_join (lt-ltb l k h) (&&_join (lt-ltb r k g) refl)
-operands_of-below A k or_kind l r h g = &&_join (lt-ltb l k h) (&&_join (lt-ltb r k g) refl)
-operands_of-below A k implies_kind l r h g = &&_join (lt-ltb l k h) (&&_join (lt-ltb r k g) refl)
+operands_of-below A k False l r h g = refl
+operands_of-below A k True l r h g = refl
+operands_of-below A k Atom l r h g = refl
+operands_of-below A k Not l r h g = &&_join (lt-ltb l k h) refl
+operands_of-below A k And l r h g = &&_join (lt-ltb l k h) (&&_join (lt-ltb r k g) refl)
+operands_of-below A k Or l r h g = &&_join (lt-ltb l k h) (&&_join (lt-ltb r k g) refl)
+operands_of-below A k Implies l r h g = &&_join (lt-ltb l k h) (&&_join (lt-ltb r k g) refl)
 
 -- The operands of node k are earlier nodes, where it keeps to its row.
 pub operands-below : (A k : ℕ) (n : Node) → fits A k n ≡ true → all_below k (operands n) ≡ true

@@ -3,7 +3,7 @@ use Rattle.std.specs.Prelude.{Bool, true, false, cond, List, [], ◌∷◌, map,
 use Rattle.logic.specs.Atoms.{Atoms}
 use Rattle.logic.specs.AnswerSet.{answer_sets}
 use Rattle.wire.specs.Sequence.{up_to}
-use Rattle.theory.specs.Book.{Kind, false_kind, atom_kind, not_kind, and_kind, or_kind, implies_kind, Node, Book, book_formulas}
+use Rattle.theory.specs.Book.{Kind, False, Atom, Not, And, Or, Implies, Node, Book, book_formulas}
 use Rattle.theory.specs.Used.{used}
 
 -- The atoms of a set, ascending, the first of the list being atom k.
@@ -26,13 +26,13 @@ abbrev paired : List Node → List ℕ → Book
 paired ns rs = record { atoms = 2; nodes = ns; roots = rs; pairs = record { first = 0; second = 1 } ∷ [] }
 
 abbrev p : Node
-p = node atom_kind 0 0
+p = node Atom 0 0
 
 abbrev q : Node
-q = node atom_kind 1 0
+q = node Atom 1 0
 
 abbrev r : Node
-r = node atom_kind 2 0
+r = node Atom 2 0
 
 -- A bench case: a book, and the answer sets that it is to have.
 pub record BenchCase : Type 0 where
@@ -45,32 +45,32 @@ case b s = record { theory = b; sets = s }
 abbrev pub bench_cases : List BenchCase
 bench_cases =
     -- P1: p or not p
-    case (book 1 (p ∷ node not_kind 0 0 ∷ node or_kind 0 1 ∷ []) (2 ∷ [])) ([] ∷ (0 ∷ []) ∷ []) ∷
+    case (book 1 (p ∷ node Not 0 0 ∷ node Or 0 1 ∷ []) (2 ∷ [])) ([] ∷ (0 ∷ []) ∷ []) ∷
     -- P2: not not p
-    case (book 1 (p ∷ node not_kind 0 0 ∷ node not_kind 1 0 ∷ []) (2 ∷ [])) [] ∷
+    case (book 1 (p ∷ node Not 0 0 ∷ node Not 1 0 ∷ []) (2 ∷ [])) [] ∷
     -- P3: p or q
-    case (book 2 (p ∷ q ∷ node or_kind 0 1 ∷ []) (2 ∷ [])) ((0 ∷ []) ∷ (1 ∷ []) ∷ []) ∷
+    case (book 2 (p ∷ q ∷ node Or 0 1 ∷ []) (2 ∷ [])) ((0 ∷ []) ∷ (1 ∷ []) ∷ []) ∷
     -- P4: (r implies q) implies p
-    case (book 3 (p ∷ q ∷ r ∷ node implies_kind 2 1 ∷ node implies_kind 3 0 ∷ []) (4 ∷ [])) ((0 ∷ []) ∷ []) ∷
+    case (book 3 (p ∷ q ∷ r ∷ node Implies 2 1 ∷ node Implies 3 0 ∷ []) (4 ∷ [])) ((0 ∷ []) ∷ []) ∷
     -- P5: p implies false
-    case (book 1 (p ∷ node false_kind 0 0 ∷ node implies_kind 0 1 ∷ []) (2 ∷ [])) ([] ∷ []) ∷
+    case (book 1 (p ∷ node False 0 0 ∷ node Implies 0 1 ∷ []) (2 ∷ [])) ([] ∷ []) ∷
     -- P6: no atoms, the root false
-    case (book 0 (node false_kind 0 0 ∷ []) (0 ∷ [])) [] ∷
+    case (book 0 (node False 0 0 ∷ []) (0 ∷ [])) [] ∷
     -- P7: no nodes, no roots
     case (book 1 [] []) ([] ∷ []) ∷
     -- P8: p or q; not q implies p; not p implies q
     case
-    (book 2 (p ∷ q ∷ node or_kind 0 1 ∷ node not_kind 1 0 ∷ node implies_kind 3 0 ∷ node not_kind 0 0 ∷ node implies_kind 5 1 ∷ []) (2 ∷ 4 ∷ 6 ∷ []))
+    (book 2 (p ∷ q ∷ node Or 0 1 ∷ node Not 1 0 ∷ node Implies 3 0 ∷ node Not 0 0 ∷ node Implies 5 1 ∷ []) (2 ∷ 4 ∷ 6 ∷ []))
     ((0 ∷ []) ∷ (1 ∷ []) ∷ []) ∷
     -- P9: p or q; q implies p; p implies q
-    case (book 2 (p ∷ q ∷ node or_kind 0 1 ∷ node implies_kind 1 0 ∷ node implies_kind 0 1 ∷ []) (2 ∷ 3 ∷ 4 ∷ [])) ((0 ∷ 1 ∷ []) ∷ []) ∷
+    case (book 2 (p ∷ q ∷ node Or 0 1 ∷ node Implies 1 0 ∷ node Implies 0 1 ∷ []) (2 ∷ 3 ∷ 4 ∷ [])) ((0 ∷ 1 ∷ []) ∷ []) ∷
     -- the pair alone
     case (paired [] []) ([] ∷ []) ∷
     -- P9 with the pair
-    case (paired (p ∷ q ∷ node or_kind 0 1 ∷ node implies_kind 1 0 ∷ node implies_kind 0 1 ∷ []) (2 ∷ 3 ∷ 4 ∷ [])) [] ∷
+    case (paired (p ∷ q ∷ node Or 0 1 ∷ node Implies 1 0 ∷ node Implies 0 1 ∷ []) (2 ∷ 3 ∷ 4 ∷ [])) [] ∷
     -- p or not p; q or not q; with the pair
     case
-    (paired (p ∷ q ∷ node not_kind 0 0 ∷ node or_kind 0 2 ∷ node not_kind 1 0 ∷ node or_kind 1 4 ∷ []) (3 ∷ 5 ∷ []))
+    (paired (p ∷ q ∷ node Not 0 0 ∷ node Or 0 2 ∷ node Not 1 0 ∷ node Or 1 4 ∷ []) (3 ∷ 5 ∷ []))
     ([] ∷ (0 ∷ []) ∷ (1 ∷ []) ∷ []) ∷
     []
 
@@ -91,13 +91,13 @@ use_cases =
     -- the first is not: an atom's left, 0, is no use of node 0
     use_case (p ∷ p ∷ []) (1 ∷ []) (false ∷ true ∷ []) ∷
     -- nor is the right of not, which is 0
-    use_case (p ∷ q ∷ node not_kind 1 0 ∷ []) (2 ∷ []) (false ∷ true ∷ true ∷ []) ∷
+    use_case (p ∷ q ∷ node Not 1 0 ∷ []) (2 ∷ []) (false ∷ true ∷ true ∷ []) ∷
     -- one in the middle is not, and what it alone uses is
-    use_case (p ∷ node not_kind 0 0 ∷ q ∷ []) (2 ∷ []) (true ∷ false ∷ true ∷ []) ∷
+    use_case (p ∷ node Not 0 0 ∷ q ∷ []) (2 ∷ []) (true ∷ false ∷ true ∷ []) ∷
     -- the last is not
-    use_case (p ∷ q ∷ node and_kind 0 1 ∷ []) (0 ∷ []) (true ∷ true ∷ false ∷ []) ∷
+    use_case (p ∷ q ∷ node And 0 1 ∷ []) (0 ∷ []) (true ∷ true ∷ false ∷ []) ∷
     -- none is
     use_case (p ∷ q ∷ []) [] (false ∷ false ∷ []) ∷
     -- each is: as a left, as a right, as a root
-    use_case (p ∷ q ∷ node implies_kind 0 1 ∷ []) (2 ∷ []) (true ∷ true ∷ true ∷ []) ∷
+    use_case (p ∷ q ∷ node Implies 0 1 ∷ []) (2 ∷ []) (true ∷ true ∷ true ∷ []) ∷
     []

@@ -3,24 +3,15 @@ use Rattle.std.specs.Prelude.{◌≡◌, Bool, true, ◌&&◌, List, [], ◌∷�
 use Rattle.wire.specs.Wire.{all_below}
 use Rattle.logic.specs.Formula.{Formula, falsum, verum, atom, neg, conj, disj, impl}
 
--- The kinds of node, 0 to 6.
-pub data Kind : Type 0 where
-  false_kind true_kind atom_kind not_kind and_kind or_kind implies_kind : Kind
-
--- A node: its kind, left and right.
-pub record Node : Type 0 where
-  pub kind : Kind
-  pub left : ℕ
-  pub right : ℕ
+-- The kinds of node, 0 to 6; a node: its kind, left and right; and a pair: an atom and its strong negation, the smaller number first.
+pub use Rattle.theory.specs.declared.Kind.{Kind}
+pub use Rattle.theory.specs.declared.Kind.TheVariants.{False, True, Atom, Not, And, Or, Implies}
+pub use Rattle.theory.specs.declared.Node.{Node}
+pub use Rattle.theory.specs.declared.Pair.{Pair}
 
 -- Node k of a list of nodes.
 abbrev pub node_at : List Node → ℕ → Node
-node_at ns k = get_or ns k (record { kind = false_kind; left = 0; right = 0 })
-
--- A pair: an atom and its strong negation, the smaller number first.
-pub record Pair : Type 0 where
-  pub first : ℕ
-  pub second : ℕ
+node_at ns k = get_or ns k (record { kind = False; left = 0; right = 0 })
 
 -- A book has atoms 0 to A - 1, nodes, roots and pairs.
 pub record Book : Type 0 where
@@ -31,23 +22,23 @@ pub record Book : Type 0 where
 
 -- What left has to be below, in node k of a book with A atoms: 0 is below 1, an atom below A, an earlier node below k.
 abbrev pub left_limit : (A k : ℕ) → Kind → ℕ
-left_limit A k false_kind = 1
-left_limit A k true_kind = 1
-left_limit A k atom_kind = A
-left_limit A k not_kind = k
-left_limit A k and_kind = k
-left_limit A k or_kind = k
-left_limit A k implies_kind = k
+left_limit A k False = 1
+left_limit A k True = 1
+left_limit A k Atom = A
+left_limit A k Not = k
+left_limit A k And = k
+left_limit A k Or = k
+left_limit A k Implies = k
 
 -- What right has to be below.
 abbrev pub right_limit : (k : ℕ) → Kind → ℕ
-right_limit k false_kind = 1
-right_limit k true_kind = 1
-right_limit k atom_kind = 1
-right_limit k not_kind = 1
-right_limit k and_kind = k
-right_limit k or_kind = k
-right_limit k implies_kind = k
+right_limit k False = 1
+right_limit k True = 1
+right_limit k Atom = 1
+right_limit k Not = 1
+right_limit k And = k
+right_limit k Or = k
+right_limit k Implies = k
 
 -- Left of node k is one that its kind's row allows,
 abbrev pub left_fits : (A k : ℕ) → Node → Bool
@@ -83,13 +74,13 @@ pub record WellFormed (b : Book) : Type 0 where
 
 -- What a kind says of the atom that left names, or of the formulas of left and right.
 abbrev pub say : Kind → (left : ℕ) → (f g : Formula) → Formula
-say false_kind a f g = falsum
-say true_kind a f g = verum
-say atom_kind a f g = atom a
-say not_kind a f g = neg f
-say and_kind a f g = conj f g
-say or_kind a f g = disj f g
-say implies_kind a f g = impl f g
+say False a f g = falsum
+say True a f g = verum
+say Atom a f g = atom a
+say Not a f g = neg f
+say And a f g = conj f g
+say Or a f g = disj f g
+say Implies a f g = impl f g
 
 -- The formula of node k of a list.
 abbrev pub formula_at : List Formula → ℕ → Formula

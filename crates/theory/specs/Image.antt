@@ -1,9 +1,11 @@
 -- The theory image: where its numbers stand, and the book that it is.
-use Rattle.std.specs.Prelude.{Bool, false, cond, not, List, [], ◌∷◌, ℕ, ◌+◌, ◌*◌, eqb, ltb, get_or, drop}
+use Rattle.std.specs.Prelude.{Bool, false, cond, not, List, [], ◌∷◌, ℕ, ◌+◌, ◌*◌, eqb, ltb, get_or, drop, Option, Some, None}
+use Rattle.refusal.specs.declared.Field.{Field}
+use Rattle.refusal.specs.Refusal.{field_number}
 use Rattle.refusal.specs.First.{first}
 use Rattle.wire.specs.Wire.{u16_at}
 use Rattle.wire.specs.Sequence.{up_to}
-use Rattle.theory.specs.Book.{Kind, false_kind, true_kind, atom_kind, not_kind, and_kind, or_kind, implies_kind, Node, Pair, Book, left_fits, right_fits}
+use Rattle.theory.specs.Book.{Kind, False, True, Atom, Not, And, Or, Implies, Node, Pair, Book, left_fits, right_fits}
 
 -- A, N, R and P of the header.
 abbrev pub atom_count : List ℕ → ℕ
@@ -41,12 +43,12 @@ pair_section t = drop (pairs_start (node_count t) (root_count t)) t
 -- The kind of a node's first byte; row 6 refuses a byte over 6.
 abbrev pub kind_of : ℕ → Kind
 kind_of byte =
-    cond (eqb byte 0) false_kind
-    (cond (eqb byte 1) true_kind
-    (cond (eqb byte 2) atom_kind
-    (cond (eqb byte 3) not_kind
-    (cond (eqb byte 4) and_kind
-    (cond (eqb byte 5) or_kind implies_kind)))))
+    cond (eqb byte 0) False
+    (cond (eqb byte 1) True
+    (cond (eqb byte 2) Atom
+    (cond (eqb byte 3) Not
+    (cond (eqb byte 4) And
+    (cond (eqb byte 5) Or Implies)))))
 
 -- Node k of the nodes' section: kind, zero byte, left, right.
 abbrev pub node_in : List ℕ → ℕ → Node
@@ -63,6 +65,11 @@ field_wrong A s k f = get_or (wrong_fields A s k) f false
 -- The first field of node k that is wrong, and 4 where none is.
 abbrev pub first_wrong : (A : ℕ) → List ℕ → (k : ℕ) → ℕ
 first_wrong A s k = first (field_wrong A s k) 4
+
+-- A field that is wrong by its number, and 4 for none.
+abbrev pub wrong_number : Option Field → ℕ
+wrong_number None = 4
+wrong_number (Some field) = field_number field
 
 -- Where it stands among the fields of all nodes, eight numbers to a node.
 abbrev pub wrong_place : (A : ℕ) → List ℕ → (k : ℕ) → ℕ

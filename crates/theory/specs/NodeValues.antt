@@ -5,18 +5,18 @@ use Rattle.logic.specs.declared.Value.TheVariants.{Neither, Both}
 use Rattle.logic.specs.Value.{smaller, larger, negation, implication}
 use Rattle.logic.specs.Formula.{Reading, value, value_of}
 use Rattle.wire.specs.Sequence.{up_to}
-use Rattle.theory.specs.Book.{Kind, false_kind, true_kind, atom_kind, not_kind, and_kind, or_kind, implies_kind, Node, Book, formulas, node_formulas}
+use Rattle.theory.specs.Book.{Kind, False, True, Atom, Not, And, Or, Implies, Node, Book, formulas, node_formulas}
 use Rattle.theory.specs.Image.{node_in}
 
 -- What a kind is worth, by the value of the atom that left names and the values of the nodes left and right.
 abbrev pub worth : Kind → (a x y : Value) → Value
-worth false_kind a x y = Neither
-worth true_kind a x y = Both
-worth atom_kind a x y = a
-worth not_kind a x y = negation x
-worth and_kind a x y = smaller x y
-worth or_kind a x y = larger x y
-worth implies_kind a x y = implication x y
+worth False a x y = Neither
+worth True a x y = Both
+worth Atom a x y = a
+worth Not a x y = negation x
+worth And a x y = smaller x y
+worth Or a x y = larger x y
+worth Implies a x y = implication x y
 
 -- The value of a node, where the nodes before it have the values vs.
 abbrev pub value_from : Reading → (vs : List Value) → Node → Value

@@ -1,16 +1,16 @@
 -- Which nodes of a book are used: an operand of some node is, and so is a root.
 use Rattle.std.specs.Prelude.{Bool, false, ◌||◌, List, [], ◌∷◌, ◌++◌, ℕ, eqb}
-use Rattle.theory.specs.Book.{Kind, false_kind, true_kind, atom_kind, not_kind, and_kind, or_kind, implies_kind, Node, Book}
+use Rattle.theory.specs.Book.{Kind, False, True, Atom, Not, And, Or, Implies, Node, Book}
 
 -- The operands of a kind: left of not, left and right of and, or and implies. What an atom's left names is no node.
 abbrev pub operands_of : Kind → (left right : ℕ) → List ℕ
-operands_of false_kind l r = []
-operands_of true_kind l r = []
-operands_of atom_kind l r = []
-operands_of not_kind l r = l ∷ []
-operands_of and_kind l r = l ∷ r ∷ []
-operands_of or_kind l r = l ∷ r ∷ []
-operands_of implies_kind l r = l ∷ r ∷ []
+operands_of False l r = []
+operands_of True l r = []
+operands_of Atom l r = []
+operands_of Not l r = l ∷ []
+operands_of And l r = l ∷ r ∷ []
+operands_of Or l r = l ∷ r ∷ []
+operands_of Implies l r = l ∷ r ∷ []
 
 abbrev pub operands : Node → List ℕ
 operands n = operands_of n.kind n.left n.right

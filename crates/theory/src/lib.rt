@@ -1,23 +1,102 @@
 //! The theory image: whether it is one, and what its nodes, roots and pairs are worth under a reading.
 #![tactic(auto)]
 
-ghost use Rattle.std.specs.Prelude.{◌≡◌, true, not, ◌&&◌, ◌||◌, map, ℕ, ◌+◌, ◌*◌, ◌≤◌, ◌<◌, eqb, ltb, length, get_or, replicate};
-ghost use Rattle.refusal.specs.Table.{answer, none};
-ghost use Rattle.refusal.specs.First.{first};
+ghost use Rattle.std.specs.Prelude.{◌≡◌, true, not, ◌&&◌, ◌||◌, map, ℕ, ◌+◌, ◌*◌, ◌≤◌, ◌<◌, ◌↔◌, IfOk, IsTrue, eqb, ltb, length, get_or, take, replicate, position, [], ◌∷◌};
+ghost use Rattle.refusal.specs.Table.{none};
+ghost use Rattle.refusal.specs.First.{found};
 ghost use Rattle.refusal.specs.Limits.{most_atoms, most_nodes, most_roots, most_pairs};
+ghost use Rattle.refusal.specs.Refusal.{Decides};
 ghost use Rattle.logic.specs.Value.{number, true_here};
 ghost use Rattle.logic.specs.Formula.{reading_of, value_of, value, satisfies};
 ghost use Rattle.wire.specs.Wire.{u32_at, all_below, over};
 ghost use Rattle.wire.specs.Sequence.{up_to};
 ghost use Rattle.theory.specs.Book.{left_limit, right_limit, fits, pair_fits, pair_formula, book_formulas};
-ghost use Rattle.theory.specs.Image.{atom_count, node_count, root_count, pair_count, roots_start, pairs_start, kind_of, node_in, first_wrong, breaks, root_in, pair_in, book_of};
+ghost use Rattle.theory.specs.Image.{atom_count, node_count, root_count, pair_count, roots_start, pairs_start, node_section, root_section, pair_section, kind_of, node_in, wrong_number, first_wrong, root_in, pair_in, book_of};
 ghost use Rattle.theory.specs.Used.{operands, all_operands, used};
 ghost use Rattle.theory.specs.Marks.{marked};
-ghost use Rattle.theory.specs.Rows.{header_rows, form_rows, theory_rows};
+ghost use Rattle.theory.specs.Rows.{nodes_row, roots_row, pairs_row, header_rows, form_rows, theory_rows};
 ghost use Rattle.theory.specs.NodeValues.{value_from, values_to, node_values};
 
 use logic::Value;
-use refusal::Answer;
+use refusal::{Field, Refusal};
+
+// The kinds of node, in the order of their bytes.
+#[derive(Clone, Copy, Debug, PartialEq, Eq)]
+pub enum Kind {
+    False,
+    True,
+    Atom,
+    Not,
+    And,
+    Or,
+    Implies,
+}
+
+// The kind of a node's first byte; row 6 refuses a byte over 6.
+impl From<u8> for Kind {
+    ghost from_gives = { λ byte kind. kind ≡ kind_of byte };
+
+    fn from(byte: u8) -> Kind {
+        match byte {
+            0 => Kind::False,
+            1 => Kind::True,
+            2 => Kind::Atom,
+            3 => Kind::Not,
+            4 => Kind::And,
+            5 => Kind::Or,
+            _ => Kind::Implies,
+        }
+    }
+}
+
+// A node: its kind, left and right.
+#[derive(Clone, Copy, Debug, PartialEq, Eq)]
+pub struct Node {
+    pub kind: Kind,
+    pub left: usize,
+    pub right: usize,
+}
+
+// A pair: an atom and its strong negation, the smaller number first.
+#[derive(Clone, Copy, Debug, PartialEq, Eq)]
+pub struct Pair {
+    pub first: usize,
+    pub second: usize,
+}
+
+// Node k of the nodes' section.
+pub fn node_at(nodes: &[u8], k: usize) -> Node
+    requires { k * 6 + 6 ≤ length nodes.now }
+    ensures value { result ≡ node_in nodes.now k }
+    ensures bound { (result.left < 65536) × (result.right < 65536) }
+{
+    let i = k * 6;
+    Node {
+        kind: Kind::from(nodes[i]),
+        left: wire::u16_at(nodes, i + 2),
+        right: wire::u16_at(nodes, i + 4),
+    }
+}
+
+// Root i of the roots' section.
+pub fn root_at(roots: &[u8], i: usize) -> usize
+    requires { i * 2 + 2 ≤ length roots.now }
+    ensures { (result ≡ root_in roots.now i) × (result < 65536) }
+{
+    wire::u16_at(roots, i * 2)
+}
+
+// Pair i of the pairs' section.
+pub fn pair_at(pairs: &[u8], i: usize) -> Pair
+    requires { i * 4 + 4 ≤ length pairs.now }
+    ensures value { result ≡ pair_in pairs.now i }
+    ensures bound { (result.first < 65536) × (result.second < 65536) }
+{
+    Pair {
+        first: wire::u16_at(pairs, i * 4),
+        second: wire::u16_at(pairs, i * 4 + 2),
+    }
+}
 
 // A of the header.
 pub fn atoms(theory: &[u8]) -> usize
@@ -68,202 +147,180 @@ pub fn pairs_start(theory: &[u8]) -> usize
 }
 
 // Whether A, N, R or P is over its limit.
-fn over_limits(atoms: usize, nodes: usize, roots: usize, pairs: usize) -> bool
-    ensures { result ≡ (ltb most_atoms atoms || (ltb most_nodes nodes || (ltb most_roots roots || ltb most_pairs pairs))) }
+fn over_limits(theory: &[u8]) -> bool
+    requires { 16 ≤ length theory.now }
+    ensures { result ≡ (ltb most_atoms (atom_count theory.now) || (ltb most_nodes (node_count theory.now) || (ltb most_roots (root_count theory.now) || ltb most_pairs (pair_count theory.now)))) }
 {
-    if refusal::MOST_ATOMS < atoms {
-        return true;
-    }
-    if refusal::MOST_NODES < nodes {
-        return true;
-    }
-    refusal::MOST_ROOTS < roots || refusal::MOST_PAIRS < pairs
+    refusal::MOST_ATOMS < atoms(theory)
+        || (refusal::MOST_NODES < nodes(theory)
+            || (refusal::MOST_ROOTS < roots(theory) || refusal::MOST_PAIRS < pairs(theory)))
 }
 
-// Whether an offset differs, where the roots are to start at `start`.
-fn offsets_differ(theory: &[u8], start: usize) -> bool
+// Whether an offset differs.
+fn offsets_differ(theory: &[u8]) -> bool
     requires { 16 ≤ length theory.now }
-    ensures { result ≡ (not (eqb (u32_at theory.now 8) 16) || not (eqb (u32_at theory.now 12) start)) }
+    ensures { result ≡ (not (eqb (u32_at theory.now 8) 16) || not (eqb (u32_at theory.now 12) (roots_start (node_count theory.now)))) }
 {
-    wire::u32_at(theory, 8) != 16 || wire::u32_at(theory, 12) != start
+    wire::u32_at(theory, 8) != 16 || wire::u32_at(theory, 12) != roots_start(theory)
 }
 
 // The rows on the header.
-fn header(theory: &[u8]) -> Answer
-    ensures { result ≡ answer (header_rows theory.now) 0 }
+fn header(theory: &[u8]) -> Result<(), Refusal>
+    ensures { Decides (header_rows theory.now) result }
 {
     if theory.len() < 16 {
-        return refusal::refuse(1, 0);
+        return Err(Refusal::TheoryHeader);
     }
-    let pair_count = pairs(theory);
-    if over_limits(atoms(theory), nodes(theory), roots(theory), pair_count) {
-        return refusal::refuse(2, 0);
+    if over_limits(theory) {
+        return Err(Refusal::TheoryLimits);
     }
-    if offsets_differ(theory, roots_start(theory)) {
-        return refusal::refuse(4, 0);
+    if offsets_differ(theory) {
+        return Err(Refusal::TheoryOffsets);
     }
-    let wanted = pairs_start(theory) + pair_count * 4;
+    let wanted = pairs_start(theory) + pairs(theory) * 4;
     if theory.len() != wanted {
-        return refusal::refuse(5, wanted);
+        return Err(Refusal::TheoryLength { wanted });
     }
-    refusal::accept(0)
+    Ok(())
 }
 
 // What left has to be below, in node k of a theory with so many atoms.
-fn left_limit(kind: u8, atoms: usize, k: usize) -> usize
-    ensures { result ≡ left_limit atoms k (kind_of kind) }
+fn left_limit(kind: Kind, atoms: usize, k: usize) -> usize
+    ensures { result ≡ left_limit atoms k kind }
 {
     match kind {
-        0 | 1 => 1,
-        2 => atoms,
-        _ => k,
+        Kind::False | Kind::True => 1,
+        Kind::Atom => atoms,
+        Kind::Not | Kind::And | Kind::Or | Kind::Implies => k,
     }
 }
 
 // What right has to be below, in node k.
-fn right_limit(kind: u8, k: usize) -> usize
-    ensures { result ≡ right_limit k (kind_of kind) }
+fn right_limit(kind: Kind, k: usize) -> usize
+    ensures { result ≡ right_limit k kind }
 {
     match kind {
-        0 | 1 | 2 | 3 => 1,
-        _ => k,
+        Kind::False | Kind::True | Kind::Atom | Kind::Not => 1,
+        Kind::And | Kind::Or | Kind::Implies => k,
     }
 }
 
-// The first field of node k that is wrong, and 4 where none is: kind, zero byte, left, right.
-fn first_wrong_field(nodes: &[u8], k: usize, atoms: usize) -> usize
+// The first field of node k that is wrong: kind, zero byte, left, right.
+fn first_wrong_field(nodes: &[u8], k: usize, atoms: usize) -> Option<Field>
     requires { k * 6 + 6 ≤ length nodes.now }
-    ensures { result ≡ first_wrong atoms nodes.now k }
+    ensures { wrong_number result ≡ first_wrong atoms nodes.now k }
 {
-    let i = k * 6;
-    let kind = nodes[i];
-    if 6 < kind {
-        return 0;
+    if 6 < nodes[k * 6] {
+        return Some(Field::Kind);
     }
-    if nodes[i + 1] != 0 {
-        return 1;
+    if nodes[k * 6 + 1] != 0 {
+        return Some(Field::Zero);
     }
-    if left_limit(kind, atoms, k) <= wire::u16_at(nodes, i + 2) {
-        return 2;
+    let node = node_at(nodes, k);
+    if left_limit(node.kind, atoms, k) <= node.left {
+        return Some(Field::Left);
     }
-    if right_limit(kind, k) <= wire::u16_at(nodes, i + 4) {
-        return 3;
+    if right_limit(node.kind, k) <= node.right {
+        return Some(Field::Right);
     }
-    4
+    None
 }
 
-// The first node that breaks its row, and the count where none does.
-fn first_broken_node(nodes: &[u8], atoms: usize, count: usize) -> usize
-    requires { count * 6 ≤ length nodes.now }
-    ensures { result ≡ first (breaks atoms nodes.now) count }
+// Row 6 of so many nodes: the first that breaks its row, and its first field that is wrong.
+fn check_nodes(nodes: &[u8], atoms: usize, count: usize) -> Result<(), Refusal>
+    requires { (count * 6 ≤ length nodes.now) × (count < 65536) }
+    ensures { Decides (nodes_row atoms nodes.now count ∷ []) result }
 {
-    let mut k = 0;
-    while k < count {
-        if first_wrong_field(nodes, k, atoms) < 4 {
-            return k;
+    for k in 0..count {
+        if let Some(field) = first_wrong_field(nodes, k, atoms) {
+            return Err(Refusal::Node {
+                node: k as u16,
+                field,
+            });
         }
-        k += 1;
     }
-    k
+    Ok(())
 }
 
-// The index of the first root that is not below the number of nodes, and the count where each is.
-fn first_root_not_below(roots: &[u8], nodes: usize, count: usize) -> usize
+// The index of the first root that is not below the number of nodes.
+fn first_root_not_below(roots: &[u8], nodes: usize, count: usize) -> Option<usize>
     requires { count * 2 ≤ length roots.now }
-    ensures { result ≡ first (λ i. not (ltb (root_in roots.now i) nodes)) count }
+    ensures { result ≡ found (λ i. not (ltb (root_in roots.now i) nodes)) count }
 {
-    let mut i = 0;
-    while i < count {
-        if nodes <= wire::u16_at(roots, i * 2) {
-            return i;
-        }
-        i += 1;
+    (0..count).find(|&i| nodes <= root_at(roots, i))
+}
+
+// Row 7 of so many roots.
+fn check_roots(roots: &[u8], nodes: usize, count: usize) -> Result<(), Refusal>
+    requires { count * 2 ≤ length roots.now }
+    ensures { Decides (roots_row nodes roots.now count ∷ []) result }
+{
+    match first_root_not_below(roots, nodes, count) {
+        Some(index) => Err(Refusal::Root { index }),
+        None => Ok(()),
     }
-    i
 }
 
 // Whether a pair is of two of the atoms, the smaller first.
-fn pair_fits(first: usize, second: usize, atoms: usize) -> bool
-    ensures { result ≡ (ltb first second && ltb second atoms) }
+fn pair_fits(pair: Pair, atoms: usize) -> bool
+    ensures { result ≡ pair_fits atoms pair }
 {
-    first < second && second < atoms
+    pair.first < pair.second && pair.second < atoms
 }
 
-// The index of the first pair that is not, and the count where each is.
-fn first_bad_pair(pairs: &[u8], atoms: usize, count: usize) -> usize
+// The index of the first pair that is not.
+fn first_bad_pair(pairs: &[u8], atoms: usize, count: usize) -> Option<usize>
     requires { count * 4 ≤ length pairs.now }
-    ensures { result ≡ first (λ i. not (pair_fits atoms (pair_in pairs.now i))) count }
+    ensures { result ≡ found (λ i. not (pair_fits atoms (pair_in pairs.now i))) count }
 {
-    let mut i = 0;
-    while i < count {
-        let first = wire::u16_at(pairs, i * 4);
-        let second = wire::u16_at(pairs, i * 4 + 2);
-        if !pair_fits(first, second, atoms) {
-            return i;
-        }
-        i += 1;
+    (0..count).find(|&i| !pair_fits(pair_at(pairs, i), atoms))
+}
+
+// Row 15 of so many pairs.
+fn check_pairs(pairs: &[u8], atoms: usize, count: usize) -> Result<(), Refusal>
+    requires { count * 4 ≤ length pairs.now }
+    ensures { Decides (pairs_row atoms pairs.now count ∷ []) result }
+{
+    match first_bad_pair(pairs, atoms, count) {
+        Some(index) => Err(Refusal::Pair { index }),
+        None => Ok(()),
     }
-    i
 }
 
 // The rows that leave a well-formed book: the header, then the nodes, then the roots, then the pairs.
-fn form(theory: &[u8]) -> Answer
-    ensures { result ≡ answer (form_rows theory.now) 0 }
+fn form(theory: &[u8]) -> Result<(), Refusal>
+    ensures { Decides (form_rows theory.now) result }
 {
-    let answer = header(theory);
-    if answer.number != 0 {
-        return answer;
-    }
-    let node_count = nodes(theory);
-    let node = first_broken_node(&theory[16..], atoms(theory), node_count);
-    if node < node_count {
-        return refusal::refuse(
-            6,
-            node * 8 + first_wrong_field(&theory[16..], node, atoms(theory)),
-        );
-    }
-    let start = roots_start(theory);
-    let root_count = roots(theory);
-    let root = first_root_not_below(&theory[start..], node_count, root_count);
-    if root < root_count {
-        return refusal::refuse(7, root);
-    }
-    let pair_count = pairs(theory);
-    let pair = first_bad_pair(&theory[pairs_start(theory)..], atoms(theory), pair_count);
-    if pair < pair_count {
-        return refusal::refuse(15, pair);
-    }
-    refusal::accept(0)
+    header(theory)?;
+    let nodes = nodes(theory);
+    check_nodes(&theory[16..], atoms(theory), nodes)?;
+    check_roots(&theory[roots_start(theory)..], nodes, roots(theory))?;
+    check_pairs(&theory[pairs_start(theory)..], atoms(theory), pairs(theory))
 }
 
-// Marks the operands of node k.
-fn mark_operands(nodes: &[u8], k: usize, marks: &mut [u8])
-    requires k_in_bounds { (k * 6 + 6 ≤ length nodes.now) × (k ≤ length marks.old) }
-    requires k_value { all_below k (operands (node_in nodes.now k)) ≡ true }
-    ensures { marks.new ≡ marked (operands (node_in nodes.now k)) marks.old }
+// Marks the operands of a node.
+fn mark_operands(node: Node, marks: &mut [u8])
+    requires { all_below (length marks.old) (operands node) ≡ true }
+    ensures { marks.new ≡ marked (operands node) marks.old }
 {
-    let i = k * 6;
-    let kind = nodes[i];
-    if kind < 3 {
-        return;
+    match node.kind {
+        Kind::False | Kind::True | Kind::Atom => {}
+        Kind::Not => marks[node.left] = 1,
+        Kind::And | Kind::Or | Kind::Implies => {
+            marks[node.left] = 1;
+            marks[node.right] = 1;
+        }
     }
-    marks[wire::u16_at(nodes, i + 2)] = 1;
-    if kind == 3 {
-        return;
-    }
-    marks[wire::u16_at(nodes, i + 4)] = 1;
 }
 
 // Marks the operands of each of the first `count` nodes.
 fn mark_nodes(nodes: &[u8], count: usize, marks: &mut [u8])
-    requires count_in_bounds { (count * 6 ≤ length nodes.now) × (count ≤ length marks.old) }
-    requires by_index { (k : ℕ) → k < count → all_below k (operands (node_in nodes.now k)) ≡ true }
+    requires count_in_bounds { count * 6 ≤ length nodes.now }
+    requires by_index { (k : ℕ) → k < count → all_below (length marks.old) (operands (node_in nodes.now k)) ≡ true }
     ensures { marks.new ≡ marked (all_operands (up_to (node_in nodes.now) count)) marks.old }
 {
-    let mut k = 0;
-    while k < count {
-        mark_operands(nodes, k, marks);
-        k += 1;
+    for k in 0..count {
+        mark_operands(node_at(nodes, k), marks);
     }
 }
 
@@ -273,33 +330,24 @@ fn mark_roots(roots: &[u8], count: usize, marks: &mut [u8])
     requires by_index { (i : ℕ) → i < count → root_in roots.now i < length marks.old }
     ensures { marks.new ≡ marked (up_to (root_in roots.now) count) marks.old }
 {
-    let mut i = 0;
-    while i < count {
-        marks[wire::u16_at(roots, i * 2)] = 1;
-        i += 1;
+    for i in 0..count {
+        marks[root_at(roots, i)] = 1;
     }
 }
 
-// The first number that is not marked, and the count where each is.
-fn first_unmarked(marks: &[u8], count: usize) -> usize
+// The first of so many nodes that is not marked.
+fn first_unmarked(marks: &[u8], count: usize) -> Option<usize>
     requires { count ≤ length marks.now }
-    ensures { result ≡ first (λ k. eqb (get_or marks.now k 0) 0) count }
+    ensures { result ≡ position (λ mark. eqb mark 0) (take count marks.now) }
 {
-    let mut k = 0;
-    while k < count {
-        if marks[k] == 0 {
-            return k;
-        }
-        k += 1;
-    }
-    k
+    marks[..count].iter().position(|mark| *mark == 0)
 }
 
-// The first node of a well-formed book that is not used, and the number of nodes where each is. What is used is marked in `marks`, which are 0 before.
-fn first_unused(theory: &[u8], marks: &mut [u8]) -> usize
+// The first node of a well-formed book that is not used. What is used is marked in `marks`, which are 0 before.
+fn first_unused(theory: &[u8], marks: &mut [u8]) -> Option<usize>
     requires theory_value { none (form_rows theory.now) ≡ true }
     requires marks_value { marks.old ≡ replicate most_nodes 0 }
-    ensures { result ≡ first (λ k. not (used (book_of theory.now) k)) (node_count theory.now) }
+    ensures { result ≡ found (λ k. not (used (book_of theory.now) k)) (node_count theory.now) }
 {
     let count = nodes(theory);
     mark_nodes(&theory[16..], count, marks);
@@ -307,28 +355,33 @@ fn first_unused(theory: &[u8], marks: &mut [u8]) -> usize
     first_unmarked(marks, count)
 }
 
+// A theory image that no row refuses.
+#[derive(Clone, Copy)]
+pub struct Theory<'a> {
+    pub image: &'a [u8],
+    ghost checked: { none (theory_rows image.now) ≡ true },
+}
+
 // All rows: those of the form, then whether each node is used, for which `marks` is room; it is 0 before.
-pub fn check_with(theory: &[u8], marks: &mut [u8]) -> Answer
+pub fn check_with<'a>(image: &'a [u8], marks: &mut [u8]) -> Result<Theory<'a>, Refusal>
     requires { marks.old ≡ replicate most_nodes 0 }
-    ensures { result ≡ answer (theory_rows theory.now) 1 }
+    ensures decided { Decides (theory_rows image.now) result }
+    ensures same { IfOk result (λ theory. theory.image.now ≡ image.now) }
 {
-    let formed = form(theory);
-    if formed.number != 0 {
-        return formed;
+    form(image)?;
+    match first_unused(image, marks) {
+        Some(node) => Err(Refusal::UnusedNode { node }),
+        None => Ok(Theory { image }),
     }
-    let unused = first_unused(theory, marks);
-    if unused < nodes(theory) {
-        return refusal::refuse(13, unused);
-    }
-    refusal::accept(1)
 }
 
 // The same, with room of its own.
-pub fn check(theory: &[u8]) -> Answer
-    ensures { result ≡ answer (theory_rows theory.now) 1 }
+pub fn check(image: &[u8]) -> Result<Theory<'_>, Refusal>
+    ensures decided { Decides (theory_rows image.now) result }
+    ensures same { IfOk result (λ theory. theory.image.now ≡ image.now) }
 {
     let mut marks = [0u8; refusal::MOST_NODES];
-    check_with(theory, &mut marks)
+    check_with(image, &mut marks)
 }
 
 // The value of an atom by its byte in a reading, or of a node by its byte among those written.
@@ -336,27 +389,22 @@ fn value_at(bytes: &[u8], i: usize) -> Value
     requires { i < length bytes.now }
     ensures { result ≡ value_of (reading_of bytes.now) i }
 {
-    Value::of_byte(bytes[i])
+    Value::from(bytes[i])
 }
 
-// The value of node k, from the values of the nodes before it.
-fn node_value(nodes: &[u8], reading: &[u8], earlier: &[u8], k: usize) -> Value
-    requires k_in_bounds { (k * 6 + 6 ≤ length nodes.now) × (length earlier.now ≡ k) }
-    requires k_value { fits (length reading.now) k (node_in nodes.now k) ≡ true }
-    ensures { result ≡ value_from (reading_of reading.now) (reading_of earlier.now) (node_in nodes.now k) }
+// The value of a node, from the values of the nodes before it.
+fn node_value(node: Node, reading: &[u8], earlier: &[u8]) -> Value
+    requires { fits (length reading.now) (length earlier.now) node ≡ true }
+    ensures { result ≡ value_from (reading_of reading.now) (reading_of earlier.now) node }
 {
-    let i = k * 6;
-    let kind = nodes[i];
-    let left = wire::u16_at(nodes, i + 2);
-    let right = wire::u16_at(nodes, i + 4);
-    match kind {
-        0 => Value::NEITHER,
-        1 => Value::BOTH,
-        2 => value_at(reading, left),
-        3 => value_at(earlier, left).not(),
-        4 => value_at(earlier, left).and(value_at(earlier, right)),
-        5 => value_at(earlier, left).or(value_at(earlier, right)),
-        _ => value_at(earlier, left).implies(value_at(earlier, right)),
+    match node.kind {
+        Kind::False => Value::NEITHER,
+        Kind::True => Value::BOTH,
+        Kind::Atom => value_at(reading, node.left),
+        Kind::Not => value_at(earlier, node.left).not(),
+        Kind::And => value_at(earlier, node.left).and(value_at(earlier, node.right)),
+        Kind::Or => value_at(earlier, node.left).or(value_at(earlier, node.right)),
+        Kind::Implies => value_at(earlier, node.left).implies(value_at(earlier, node.right)),
     }
 }
 
@@ -366,73 +414,100 @@ fn write_values(nodes: &[u8], reading: &[u8], values: &mut [u8], count: usize)
     requires by_index { (k : ℕ) → k < count → fits (length reading.now) k (node_in nodes.now k) ≡ true }
     ensures { values.new ≡ over (map number (values_to (reading_of reading.now) nodes.now count)) values.old }
 {
-    let mut k = 0;
-    while k < count {
-        let value = node_value(nodes, reading, &values[..k], k);
-        values[k] = value.byte();
-        k += 1;
+    for k in 0..count {
+        let value = node_value(node_at(nodes, k), reading, &values[..k]);
+        values[k] = u8::from(value);
     }
 }
 
-// Writes the value of each node of an accepted theory under a reading, over the start of `values`.
-pub fn values(theory: &[u8], reading: &[u8], values: &mut [u8])
-    requires theory_value { none (theory_rows theory.now) ≡ true }
-    requires reading_len { length reading.now ≡ atom_count theory.now }
-    requires theory_in_bounds { node_count theory.now ≤ length values.old }
-    ensures { values.new ≡ over (map number (node_values (book_of theory.now) (reading_of reading.now))) values.old }
-{
-    let count = nodes(theory);
-    write_values(&theory[16..], reading, values, count);
-}
-
-// The index of the first root whose value is not 2, and the count where each is 2.
-fn first_untrue_root(roots: &[u8], values: &[u8], count: usize) -> usize
+// Whether each of the first `count` roots has the value 2.
+fn roots_hold(roots: &[u8], values: &[u8], count: usize) -> bool
     requires count_in_bounds { count * 2 ≤ length roots.now }
     requires by_index { (i : ℕ) → i < count → root_in roots.now i < length values.now }
-    ensures { result ≡ first (λ i. not (eqb (get_or values.now (root_in roots.now i) 0) 2)) count }
+    ensures { IsTrue result ↔ ((i : ℕ) → i < count → get_or values.now (root_in roots.now i) 0 ≡ 2) }
 {
-    let mut i = 0;
-    while i < count {
-        let root = wire::u16_at(roots, i * 2);
-        if values[root] != 2 {
-            return i;
-        }
-        i += 1;
-    }
-    i
+    (0..count).all(|i| values[root_at(roots, i)] == 2)
 }
 
-// The index of the first pair whose atoms are both over 0, and the count where none is: a pair's formula is 2 exactly if the smaller of its two values is 0.
-fn first_untrue_pair(pairs: &[u8], reading: &[u8], count: usize) -> usize
+// Whether a reading satisfies a pair: its formula is 2 exactly if the smaller of its two values is 0.
+fn pair_holds(pair: Pair, reading: &[u8]) -> bool
+    requires { pair_fits (length reading.now) pair ≡ true }
+    ensures { result ≡ true_here (value (reading_of reading.now) (pair_formula pair)) }
+{
+    value_at(reading, pair.first).and(value_at(reading, pair.second)) == Value::NEITHER
+}
+
+// Whether a reading satisfies each of the first `count` pairs.
+fn pairs_hold(pairs: &[u8], reading: &[u8], count: usize) -> bool
     requires count_in_bounds { count * 4 ≤ length pairs.now }
     requires by_index { (i : ℕ) → i < count → pair_fits (length reading.now) (pair_in pairs.now i) ≡ true }
-    ensures { result ≡ first (λ i. not (true_here (value (reading_of reading.now) (pair_formula (pair_in pairs.now i))))) count }
+    ensures { IsTrue result ↔ ((i : ℕ) → i < count → true_here (value (reading_of reading.now) (pair_formula (pair_in pairs.now i))) ≡ true) }
 {
-    let mut i = 0;
-    while i < count {
-        let first = value_at(reading, wire::u16_at(pairs, i * 4));
-        let second = value_at(reading, wire::u16_at(pairs, i * 4 + 2));
-        if 0 < first.and(second).byte() {
-            return i;
-        }
-        i += 1;
-    }
-    i
+    (0..count).all(|i| pair_holds(pair_at(pairs, i), reading))
 }
 
-// Whether a reading satisfies an accepted theory: its nodes' values go to `scratch`, where each root is looked up, and then each pair is looked up in the reading.
-pub fn satisfied(theory: &[u8], reading: &[u8], scratch: &mut [u8]) -> bool
-    requires theory_value { none (theory_rows theory.now) ≡ true }
-    requires reading_len { length reading.now ≡ atom_count theory.now }
-    requires theory_in_bounds { node_count theory.now ≤ length scratch.old }
-    ensures { result ≡ satisfies (reading_of reading.now) (book_formulas (book_of theory.now)) }
-{
-    values(theory, reading, scratch);
-    let start = roots_start(theory);
-    let count = roots(theory);
-    if first_untrue_root(&theory[start..], scratch, count) < count {
-        return false;
+impl<'a> Theory<'a> {
+    // A, N, R and P.
+    pub fn atoms(&self) -> usize
+        ensures { (result ≡ atom_count self.now.image.now) × (result ≤ most_atoms) }
+    {
+        atoms(self.image)
     }
-    let pair_count = pairs(theory);
-    first_untrue_pair(&theory[pairs_start(theory)..], reading, pair_count) == pair_count
+
+    pub fn nodes(&self) -> usize
+        ensures { (result ≡ node_count self.now.image.now) × (result ≤ most_nodes) }
+    {
+        nodes(self.image)
+    }
+
+    pub fn roots(&self) -> usize
+        ensures { (result ≡ root_count self.now.image.now) × (result ≤ most_roots) }
+    {
+        roots(self.image)
+    }
+
+    pub fn pairs(&self) -> usize
+        ensures { (result ≡ pair_count self.now.image.now) × (result ≤ most_pairs) }
+    {
+        pairs(self.image)
+    }
+
+    // The parts of the image that start at the nodes, at the roots and at the pairs.
+    pub fn node_section(&self) -> &'a [u8]
+        ensures { result.now ≡ node_section self.now.image.now }
+    {
+        &self.image[16..]
+    }
+
+    pub fn root_section(&self) -> &'a [u8]
+        ensures { result.now ≡ root_section self.now.image.now }
+    {
+        &self.image[roots_start(self.image)..]
+    }
+
+    pub fn pair_section(&self) -> &'a [u8]
+        ensures { result.now ≡ pair_section self.now.image.now }
+    {
+        &self.image[pairs_start(self.image)..]
+    }
+
+    // Writes the value of each node under a reading, over the start of `values`.
+    pub fn values(&self, reading: &[u8], values: &mut [u8])
+        requires reading_len { length reading.now ≡ atom_count self.now.image.now }
+        requires theory_in_bounds { node_count self.now.image.now ≤ length values.old }
+        ensures { values.new ≡ over (map number (node_values (book_of self.now.image.now) (reading_of reading.now))) values.old }
+    {
+        write_values(self.node_section(), reading, values, self.nodes());
+    }
+
+    // Whether a reading satisfies the theory: its nodes' values go to `scratch`, where each root is looked up, and then each pair is looked up in the reading.
+    pub fn satisfied(&self, reading: &[u8], scratch: &mut [u8]) -> bool
+        requires reading_len { length reading.now ≡ atom_count self.now.image.now }
+        requires theory_in_bounds { node_count self.now.image.now ≤ length scratch.old }
+        ensures { result ≡ satisfies (reading_of reading.now) (book_formulas (book_of self.now.image.now)) }
+    {
+        self.values(reading, scratch);
+        roots_hold(self.root_section(), scratch, self.roots())
+            && pairs_hold(self.pair_section(), reading, self.pairs())
+    }
 }

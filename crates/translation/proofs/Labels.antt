@@ -20,7 +20,7 @@ use Rattle.logic.specs.declared.Value.TheVariants.{Neither}
 use Rattle.logic.specs.Value.{number, of_byte, negation}
 use Rattle.logic.specs.Formula.{Formula, falsum, Reading, reading_of, value}
 use Rattle.logic.proofs.Values.{of_byte-number, number-of_byte}
-use Rattle.theory.specs.Book.{Kind, false_kind, true_kind, atom_kind, not_kind, and_kind, or_kind, implies_kind, Node, formula_at, formula, formulas}
+use Rattle.theory.specs.Book.{Kind, False, True, Atom, Not, And, Or, Implies, Node, formula_at, formula, formulas}
 use Rattle.theory.specs.Image.{atom_count, node_count, node_section, node_in, book_of}
 use Rattle.theory.specs.Rows.{theory_rows}
 use Rattle.theory.specs.NodeValues.{values_to, node_values}
@@ -45,13 +45,13 @@ labels_from_more fs (m ∷ ns) n = rw append_assoc (ap (λ l. labels fs m ++ l) 
 -- The bytes of what a kind's labels stand for.
 meanings_bytes : (I : Reading) (k : Kind) (f g : Formula)
     → map number (map (value I) (meanings k f g)) ≡ take (label_count k) (number (value I f) ∷ number (negation (value I g)) ∷ [])
-meanings_bytes I false_kind f g = refl
-meanings_bytes I true_kind f g = refl
-meanings_bytes I atom_kind f g = refl
-meanings_bytes I not_kind f g = refl
-meanings_bytes I and_kind f g = refl
-meanings_bytes I or_kind f g = refl
-meanings_bytes I implies_kind f g = refl
+meanings_bytes I False f g = refl
+meanings_bytes I True f g = refl
+meanings_bytes I Atom f g = refl
+meanings_bytes I Not f g = refl
+meanings_bytes I And f g = refl
+meanings_bytes I Or f g = refl
+meanings_bytes I Implies f g = refl
 
 -- ---- the values in the scratch
 

@@ -12,7 +12,7 @@ use lib.Seq.{get_or-take}
 use Rattle.refusal.specs.Limits.{most_atoms, most_nodes, most_b}
 use Rattle.wire.specs.Sequence.{up_to}
 use Rattle.wire.proofs.Sequence.{length-up_to}
-use Rattle.theory.specs.Book.{Kind, false_kind, true_kind, atom_kind, not_kind, and_kind, or_kind, implies_kind, left_limit, right_limit}
+use Rattle.theory.specs.Book.{Kind, False, True, Atom, Not, And, Or, Implies, left_limit, right_limit}
 use Rattle.theory.specs.Image.{node_in}
 use Rattle.theory.proofs.Books.{fits-left, fits-right}
 use Rattle.theory.proofs.Accepted.{kept_known, kept_fits}
@@ -30,23 +30,23 @@ use Rattle.translation.proofs.Turns.{next_to_more, terms_to-none, terms_to_more,
 -- ---- by kind
 
 limits_small : (A k : ℕ) (kind : Kind) → A ≤ most_atoms → k < most_nodes → (left_limit A k kind ≤ most_nodes) × (right_limit k kind ≤ most_nodes)
-limits_small A k false_kind h l = omega arith
-limits_small A k true_kind h l = omega arith
-limits_small A k atom_kind h l = omega arith
-limits_small A k not_kind h l = omega arith
-limits_small A k and_kind h l = omega arith
-limits_small A k or_kind h l = omega arith
-limits_small A k implies_kind h l = omega arith
+limits_small A k False h l = omega arith
+limits_small A k True h l = omega arith
+limits_small A k Atom h l = omega arith
+limits_small A k Not h l = omega arith
+limits_small A k And h l = omega arith
+limits_small A k Or h l = omega arith
+limits_small A k Implies h l = omega arith
 
 -- The term of a node is below the next label.
 term-below : (A k next : ℕ) (kind : Kind) (left : ℕ) → left < left_limit A k kind → A ≤ next → Below (next + label_count kind) (term_of next kind left)
-term-below A k next false_kind left h l = tt
-term-below A k next true_kind left h l = tt
-term-below A k next atom_kind left h l = omega arith
-term-below A k next not_kind left h l = omega arith
-term-below A k next and_kind left h l = omega arith
-term-below A k next or_kind left h l = omega arith
-term-below A k next implies_kind left h l = omega arith
+term-below A k next False left h l = tt
+term-below A k next True left h l = tt
+term-below A k next Atom left h l = omega arith
+term-below A k next Not left h l = omega arith
+term-below A k next And left h l = omega arith
+term-below A k next Or left h l = omega arith
+term-below A k next Implies left h l = omega arith
 
 pub below_le : (B C : ℕ) → B ≤ C → (t : Term) → Below B t → Below C t
 below_le B C h (constant b) l = tt

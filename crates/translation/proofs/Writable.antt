@@ -13,7 +13,7 @@ use Rattle.refusal.specs.Limits.{most_atoms, most_b, most_rules}
 use Rattle.refusal.specs.Table.{Row, none}
 use Rattle.refusal.proofs.Table.{cases}
 use Rattle.logic.proofs.Bools.{&&_split, &&_join}
-use Rattle.theory.specs.Book.{pair_fits, Kind, false_kind, true_kind, atom_kind, not_kind, and_kind, or_kind, implies_kind}
+use Rattle.theory.specs.Book.{pair_fits, Kind, False, True, Atom, Not, And, Or, Implies}
 use Rattle.theory.specs.Image.{atom_count, node_count, root_count, pair_count, node_section, root_section, pair_section, node_in, root_in, pair_in, book_of}
 use Rattle.theory.specs.Rows.{theory_rows}
 use Rattle.theory.proofs.Accepted.{accepted, accepted_well_formed}
@@ -114,13 +114,13 @@ module _ (B next : ℕ) (left right : Term) (l : Below B left) (r : Below B righ
   fill-below h M = h
 
   kind-writable : (packed : Bool) (k : Kind) → next + label_count k ≤ B → rules_writable packed B (instances (fill left right next) (rows k)) ≡ true
-  kind-writable packed false_kind h = refl
-  kind-writable packed true_kind h = refl
-  kind-writable packed atom_kind h = refl
-  kind-writable packed not_kind h = instances-writable packed B without_m (without_m_below (omega arith)) (rows not_kind) refl
-  kind-writable packed and_kind h = instances-writable packed B without_m (without_m_below (omega arith)) (rows and_kind) refl
-  kind-writable packed or_kind h = instances-writable packed B without_m (without_m_below (omega arith)) (rows or_kind) refl
-  kind-writable packed implies_kind h = instances-writable packed B (fill left right next) (fill-below (omega arith)) (rows implies_kind) refl
+  kind-writable packed False h = refl
+  kind-writable packed True h = refl
+  kind-writable packed Atom h = refl
+  kind-writable packed Not h = instances-writable packed B without_m (without_m_below (omega arith)) (rows Not) refl
+  kind-writable packed And h = instances-writable packed B without_m (without_m_below (omega arith)) (rows And) refl
+  kind-writable packed Or h = instances-writable packed B without_m (without_m_below (omega arith)) (rows Or) refl
+  kind-writable packed Implies h = instances-writable packed B (fill left right next) (fill-below (omega arith)) (rows Implies) refl
 
 -- ---- the whole program
 
