@@ -40,8 +40,11 @@ broken_at packed B K s k = cond (ltb k K) (not (rule_keeps packed B (behind pack
 
 -- Row 26: a rule has too many literals, runs past the end, has a zero byte that is not 0, an atom not below B, or an unused slot that is not 0;
 -- its place is the first such rule, and K where bytes are left behind the last.
+abbrev pub rules_row : (packed : Bool) → (B K : ℕ) → List ℕ → Row
+rules_row packed B K s = first_such 26 (broken_at packed B K s) (K + 1)
+
 abbrev pub row26 : List ℕ → Row
-row26 p = first_such 26 (broken_at (is_packed p) (size_of p) (rule_count p) (rule_section p)) (rule_count p + 1)
+row26 p = rules_row (is_packed p) (size_of p) (rule_count p) (rule_section p)
 
 -- The rows of a program image, in the order tested.
 unfoldable pub program_rows : List ℕ → List Row

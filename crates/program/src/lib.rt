@@ -1,22 +1,23 @@
 //! The program image in its two forms: flat rules as bytes.
 #![tactic(auto)]
 
-ghost use Rattle.std.specs.Prelude.{◌≡◌, true, false, cond, ◌∷◌, ◌+◌, ◌*◌, ◌≤◌, ◌<◌, leb, ltb, length};
-ghost use Rattle.refusal.specs.Limits.{most_b};
-ghost use Rattle.refusal.specs.Table.{answer, none};
-ghost use Rattle.refusal.specs.First.{first};
+ghost use Rattle.std.specs.Prelude.{◌≡◌, true, false, cond, ◌&&◌, List, [], ◌∷◌, ℕ, ◌+◌, ◌-◌, ◌*◌, ◌≤◌, ◌<◌, ◌↔◌, IfOk, IsTrue, leb, ltb, length};
+ghost use Rattle.refusal.specs.Limits.{most_atoms, most_b, most_rules};
+ghost use Rattle.refusal.specs.Table.{none};
+ghost use Rattle.refusal.specs.Refusal.{Decides};
 ghost use Rattle.wire.specs.Wire.{over};
 ghost use Rattle.logic.specs.Value.{number, negation};
 ghost use Rattle.logic.specs.Formula.{reading_of, value_of};
 ghost use Rattle.program.specs.Rule.{smallest, largest, holds};
 ghost use Rattle.program.specs.Program.{satisfies_program};
-ghost use Rattle.program.specs.Image.{size_of, most_literals, slot_count, rule_length, used_at, slot_at, slots_from, rule_at, program_of};
-ghost use Rattle.program.specs.Image.{slot_keeps, slots_keep, rule_keeps, slot_bytes, counted_bytes, image_length, header};
-ghost use Rattle.program.specs.Literals.{Named, literal_value, slot_put};
-ghost use Rattle.program.specs.Rows.{outside, total_keeps, broken_at, program_rows};
+ghost use Rattle.program.specs.Image.{atom_count, size_of, rule_count, most_literals, slot_count, rule_length, used_at, slot_at, slots_from, rule_at, program_of};
+ghost use Rattle.program.specs.Image.{slot_keeps, slots_keep, rule_keeps, slot_bytes, image_length, header};
+ghost use Rattle.program.specs.Literals.{Named, literal_value, slot_put, Slotted, slotted_used, slotted_bytes};
+ghost use Rattle.program.specs.Rows.{outside, total_keeps, rules_row, program_rows};
 
 use logic::Value;
-use refusal::Answer;
+use refusal::Refusal;
+use std::marker::Model;
 
 // The bytes of a header, and of a rule in the fixed form.
 const HEADER_LENGTH: usize = 16;
@@ -50,13 +51,6 @@ pub fn image_length(packed: bool, rules: usize, literals: usize) -> usize
     }
 }
 
-// What bytes 6-7 hold.
-fn form_number(packed: bool) -> usize
-    ensures { result ≡ cond packed 1 0 }
-{
-    if packed { 1 } else { 0 }
-}
-
 // The header of an image of `rules` rules, with its total length.
 pub fn header_bytes(packed: bool, atoms: usize, size: usize, rules: usize, total: usize) -> [u8; 16]
     ensures { result ≡ header packed atoms size rules total }
@@ -64,12 +58,58 @@ pub fn header_bytes(packed: bool, atoms: usize, size: usize, rules: usize, total
     let a = wire::u16_bytes(atoms);
     let b = wire::u16_bytes(size);
     let k = wire::u16_bytes(rules);
-    let form = wire::u16_bytes(form_number(packed));
+    let form = wire::u16_bytes(usize::from(packed));
     let bytes = wire::u32_bytes(total);
     [
         a[0], a[1], b[0], b[1], k[0], k[1], form[0], form[1], 16, 0, 0, 0, bytes[0], bytes[1],
         bytes[2], bytes[3],
     ]
+}
+
+// A rule of at most three literals: how many heads, positives and negatives it has, and what stands in its slots.
+#[derive(Drop)]
+pub struct Rule {
+    pub heads: usize,
+    pub positives: usize,
+    pub negatives: usize,
+    pub slots: [usize; 3],
+}
+
+impl Model for Rule {
+    ghost Value = { Slotted };
+
+    ghost view = { λ r. record { heads = r.heads; positives = r.positives; negatives = r.negatives; slots = r.slots } };
+
+    ghost invariant = { λ r. r.heads + r.positives + r.negatives ≤ 3 };
+}
+
+impl Rule {
+    // How many literals it has.
+    pub fn literals(&self) -> usize
+        ensures { (result ≡ slotted_used self.now) × (result ≤ 3) }
+    {
+        self.heads + self.positives + self.negatives
+    }
+
+    // Writes it over the start of `out`, and gives how many bytes it has.
+    pub fn put(&self, out: &mut [u8], packed: bool) -> usize
+        requires { length (slotted_bytes packed self.now) ≤ length out.old }
+        ensures value { result ≡ length (slotted_bytes packed self.now) }
+        ensures out_after { out.new ≡ over (slotted_bytes packed self.now) out.old }
+    {
+        let written = if packed { self.literals() } else { 3 };
+        let counts = [
+            self.heads as u8,
+            self.positives as u8,
+            self.negatives as u8,
+            0,
+        ];
+        wire::put(out, &counts);
+        put_slot(out, written, 0, self.slots[0]);
+        put_slot(out, written, 1, self.slots[1]);
+        put_slot(out, written, 2, self.slots[2]);
+        4 + written * 2
+    }
 }
 
 // Writes slot j of a rule behind its counts, if it is one of the first n.
@@ -83,80 +123,39 @@ fn put_slot(out: &mut [u8], n: usize, j: usize, slot: usize)
     wire::put(&mut out[4 + j * 2..], &wire::u16_bytes(slot));
 }
 
-// Writes the counts of a rule of at most three literals and its first n slots, and gives how many bytes that is.
-fn put_counted(
-    out: &mut [u8],
-    heads: usize,
-    positives: usize,
-    negatives: usize,
-    slots: [usize; 3],
-    n: usize,
-) -> usize
-    requires { (heads + positives + negatives ≤ 3) × (n ≤ 3) × (4 + n * 2 ≤ length out.old) }
-    ensures value { result ≡ 4 + n * 2 }
-    ensures out_after { out.new ≡ over (heads ∷ positives ∷ negatives ∷ 0 ∷ slot_bytes slots n) out.old }
-{
-    wire::put(out, &[heads as u8, positives as u8, negatives as u8, 0]);
-    put_slot(out, n, 0, slots[0]);
-    put_slot(out, n, 1, slots[1]);
-    put_slot(out, n, 2, slots[2]);
-    4 + n * 2
-}
-
-// Writes a rule of at most three literals over the start of `out`, and gives how many bytes it has.
-pub fn put_rule(
-    out: &mut [u8],
-    packed: bool,
-    heads: usize,
-    positives: usize,
-    negatives: usize,
-    slots: [usize; 3],
-) -> usize
-    requires { (heads + positives + negatives ≤ 3) × (length (counted_bytes packed heads positives negatives slots) ≤ length out.old) }
-    ensures value { result ≡ length (counted_bytes packed heads positives negatives slots) }
-    ensures out_after { out.new ≡ over (counted_bytes packed heads positives negatives slots) out.old }
-{
-    if packed {
-        return put_counted(
-            out,
-            heads,
-            positives,
-            negatives,
-            slots,
-            heads + positives + negatives,
-        );
-    }
-    put_counted(out, heads, positives, negatives, slots, 3)
+// A program image that no row refuses.
+#[derive(Clone, Copy)]
+pub struct Program<'a> {
+    pub image: &'a [u8],
+    ghost checked: { none (program_rows image.now) ≡ true },
 }
 
 // Rows 21 to 26, in this order.
-pub fn check(program: &[u8]) -> Answer
-    ensures { result ≡ answer (program_rows program.now) 1 }
+pub fn check(image: &[u8]) -> Result<Program<'_>, Refusal>
+    ensures decided { Decides (program_rows image.now) result }
+    ensures same { IfOk result (λ program. program.image.now ≡ image.now) }
 {
-    if program.len() < HEADER_LENGTH {
-        return refusal::refuse(21, 0);
+    if image.len() < HEADER_LENGTH {
+        return Err(Refusal::ProgramHeader);
     }
-    let size = wire::u16_at(program, 2);
-    let count = wire::u16_at(program, 4);
-    if is_outside(wire::u16_at(program, 0), size, count) {
-        return refusal::refuse(22, 0);
+    let size = wire::u16_at(image, 2);
+    let count = wire::u16_at(image, 4);
+    if is_outside(wire::u16_at(image, 0), size, count) {
+        return Err(Refusal::ProgramLimits);
     }
-    let form = wire::u16_at(program, 6);
+    let form = wire::u16_at(image, 6);
     if 1 < form {
-        return refusal::refuse(23, 0);
+        return Err(Refusal::ProgramForm);
     }
-    let total = wire::u32_at(program, 12);
-    if wire::u32_at(program, 8) != HEADER_LENGTH || !total_keeps(form == 1, count, total) {
-        return refusal::refuse(24, 0);
+    let total = wire::u32_at(image, 12);
+    if wire::u32_at(image, 8) != HEADER_LENGTH || !total_keeps(form == 1, count, total) {
+        return Err(Refusal::ProgramOffsets);
     }
-    if program.len() != total {
-        return refusal::refuse(25, total);
+    if image.len() != total {
+        return Err(Refusal::ProgramLength { wanted: total });
     }
-    let broken = first_broken_rule(&program[HEADER_LENGTH..], form == 1, count, size);
-    if broken <= count {
-        return refusal::refuse(26, broken);
-    }
-    refusal::accept(1)
+    check_rules(&image[HEADER_LENGTH..], form == 1, count, size)?;
+    Ok(Program { image })
 }
 
 // Whether A, B or K is outside its limits.
@@ -179,25 +178,22 @@ fn total_keeps(packed: bool, count: usize, total: usize) -> bool
     }
 }
 
-// The first rule that row 26 is about, `count` where bytes are left behind the last, and `count + 1` where nothing is wrong.
-fn first_broken_rule(rules: &[u8], packed: bool, count: usize, size: usize) -> usize
+// Row 26 of so many rules: the first that does not keep to its form, or bytes that are left behind the last.
+fn check_rules(rules: &[u8], packed: bool, count: usize, size: usize) -> Result<(), Refusal>
     requires { count < 65536 }
-    ensures { result ≡ first (broken_at packed size count rules.now) (count + 1) }
+    ensures { Decides (rules_row packed size count rules.now ∷ []) result }
 {
-    let mut at = 0;
-    let mut place = 0;
-    while place < count {
-        let rule = &rules[at..];
-        if !keeps(rule, packed, size) {
-            return place;
+    let mut rest = rules;
+    for index in 0..count {
+        if !keeps(rest, packed, size) {
+            return Err(Refusal::Rule { index });
         }
-        at += rule_length(packed, used_at(rule));
-        place += 1;
+        rest = &rest[rule_length(packed, used_at(rest))..];
     }
-    if at < rules.len() {
-        return place;
+    if 0 < rest.len() {
+        return Err(Refusal::Rule { index: count });
     }
-    place + 1
+    Ok(())
 }
 
 // Whether the rule at the start of a slice keeps to its form, with all its literals below `size`.
@@ -218,7 +214,15 @@ fn used_at(rule: &[u8]) -> usize
     requires { 4 ≤ length rule.now }
     ensures { (result ≡ used_at rule.now) × (result < 65536) }
 {
-    wire::wide(rule[0]) + wire::wide(rule[1]) + wire::wide(rule[2])
+    usize::from(rule[0]) + usize::from(rule[1]) + usize::from(rule[2])
+}
+
+// What stands in slot i of the rule at the start of a slice.
+fn slot_at(rule: &[u8], i: usize) -> usize
+    requires { 6 + i * 2 ≤ length rule.now }
+    ensures { (result ≡ slot_at rule.now i) × (result < 65536) }
+{
+    wire::u16_at(rule, 4 + i * 2)
 }
 
 // Whether each slot of a rule of `used` literals keeps its part.
@@ -229,9 +233,9 @@ fn slots_keep(rule: &[u8], packed: bool, used: usize, size: usize) -> bool
     if packed {
         return atoms_keep(rule, used, size);
     }
-    slot_keeps(wire::u16_at(rule, 4), 0, used, size)
-        && (slot_keeps(wire::u16_at(rule, 6), 1, used, size)
-            && slot_keeps(wire::u16_at(rule, 8), 2, used, size))
+    slot_keeps(slot_at(rule, 0), 0, used, size)
+        && (slot_keeps(slot_at(rule, 1), 1, used, size)
+            && slot_keeps(slot_at(rule, 2), 2, used, size))
 }
 
 // Whether the first `used` slots hold atoms below `size`.
@@ -239,14 +243,7 @@ fn atoms_keep(rule: &[u8], used: usize, size: usize) -> bool
     requires { (used < 65536) × (rule_length true used ≤ length rule.now) }
     ensures { result ≡ slots_keep size used (slot_at rule.now) used }
 {
-    let mut i = 0;
-    while i < used {
-        if size <= wire::u16_at(rule, 4 + i * 2) {
-            return false;
-        }
-        i += 1;
-    }
-    true
+    (0..used).all(|i| slot_at(rule, i) < size)
 }
 
 // Whether slot i of a rule of `used` literals holds an atom below `size`, or 0 where it is unused.
@@ -263,33 +260,35 @@ fn slot_bound(i: usize, used: usize, size: usize) -> usize
     if i < used { size } else { 1 }
 }
 
-// B of an image that is accepted.
-pub fn size(program: &[u8]) -> usize
-    requires { none (program_rows program.now) ≡ true }
-    ensures { (result ≡ size_of program.now) × (result ≤ most_b) }
-{
-    wire::u16_at(program, 2)
-}
-
-// Whether a reading of B values satisfies every rule of an image that is accepted.
-pub fn satisfied(program: &[u8], reading: &[u8]) -> bool
-    requires { (none (program_rows program.now) ≡ true) × (length reading.now ≡ size_of program.now) }
-    ensures { result ≡ satisfies_program (reading_of reading.now) (program_of program.now) }
-{
-    let packed = wire::u16_at(program, 6) == 1;
-    let count = wire::u16_at(program, 4);
-    let rules = &program[HEADER_LENGTH..];
-    let mut at = 0;
-    let mut k = 0;
-    while k < count {
-        let rule = &rules[at..];
-        if !rule_holds(rule, reading) {
-            return false;
-        }
-        at += rule_length(packed, used_at(rule));
-        k += 1;
+impl<'a> Program<'a> {
+    // A and B.
+    pub fn atoms(&self) -> usize
+        ensures { (result ≡ atom_count self.now.image.now) × (result ≤ most_atoms) }
+    {
+        wire::u16_at(self.image, 0)
     }
-    true
+
+    pub fn size(&self) -> usize
+        ensures { (result ≡ size_of self.now.image.now) × (result ≤ most_b) }
+    {
+        wire::u16_at(self.image, 2)
+    }
+
+    // Whether a reading of B values satisfies every rule.
+    pub fn satisfied(&self, reading: &[u8]) -> bool
+        requires { length reading.now ≡ size_of self.now.image.now }
+        ensures { result ≡ satisfies_program (reading_of reading.now) (program_of self.now.image.now) }
+    {
+        let packed = wire::u16_at(self.image, 6) == 1;
+        let mut rest = &self.image[HEADER_LENGTH..];
+        for _ in 0..wire::u16_at(self.image, 4) {
+            if !rule_holds(rest, reading) {
+                return false;
+            }
+            rest = &rest[rule_length(packed, used_at(rest))..];
+        }
+        true
+    }
 }
 
 // Whether a reading satisfies the rule at the start of a slice: its largest head value is 2, or a value of its body is at most that.
@@ -297,21 +296,15 @@ fn rule_holds(rule: &[u8], reading: &[u8]) -> bool
     requires { Named rule.now (length reading.now) }
     ensures { result ≡ holds (value_of (reading_of reading.now)) (rule_at rule.now) }
 {
-    let heads = wire::wide(rule[0]);
-    let positives = wire::wide(rule[1]);
+    let heads = usize::from(rule[0]);
+    let positives = usize::from(rule[1]);
+    let negatives = usize::from(rule[2]);
     let head = largest_head(rule, heads, reading);
-    if 1 < head.byte() {
+    if head == Value::BOTH {
         return true;
     }
     body_at_most(rule, heads, positives, false, reading, head)
-        || body_at_most(
-            rule,
-            heads + positives,
-            wire::wide(rule[2]),
-            true,
-            reading,
-            head,
-        )
+        || body_at_most(rule, heads + positives, negatives, true, reading, head)
 }
 
 // The largest value of the first `count` slots.
@@ -319,13 +312,11 @@ fn largest_head(rule: &[u8], count: usize, reading: &[u8]) -> Value
     requires { Named rule.now (length reading.now) × (count ≤ used_at rule.now) }
     ensures { result ≡ largest (value_of (reading_of reading.now)) (slots_from rule.now 0 count) }
 {
-    let mut value = Value::NEITHER;
-    let mut i = 0;
-    while i < count {
-        value = value.or(value_at(rule, i, reading));
-        i += 1;
+    let mut largest = Value::NEITHER;
+    for i in 0..count {
+        largest = largest.or(value_at(rule, i, reading));
     }
-    value
+    largest
 }
 
 // Whether one of the literals in `count` slots from slot `start` on, all negative or all positive, has at most the value of a head that is not 2.
@@ -340,15 +331,7 @@ fn body_at_most(
     requires { Named rule.now (length reading.now) × (start + count ≤ used_at rule.now) × (number head < 2) }
     ensures { result ≡ leb (number (smallest (literal_value negative (reading_of reading.now)) (slots_from rule.now start count))) (number head) }
 {
-    let mut i = 0;
-    while i < count {
-        let value = value_at(rule, start + i, reading);
-        if literal_value(value, negative).byte() <= head.byte() {
-            return true;
-        }
-        i += 1;
-    }
-    false
+    (start..start + count).any(|i| literal_value(value_at(rule, i, reading), negative) <= head)
 }
 
 // The value of a literal whose atom has this value.
@@ -363,5 +346,5 @@ fn value_at(rule: &[u8], i: usize, reading: &[u8]) -> Value
     requires { Named rule.now (length reading.now) × (i < used_at rule.now) }
     ensures { result ≡ value_of (reading_of reading.now) (slot_at rule.now i) }
 {
-    Value::of_byte(reading[wire::u16_at(rule, 4 + i * 2)])
+    Value::from(reading[slot_at(rule, i)])
 }
