@@ -1,11 +1,11 @@
 -- One rule as the code makes it: terms as numbers, and literals added one by one. Notes on the code, which no public promise names.
-use Rattle.std.specs.Prelude.{◌≡◌, Bool, true, false, not, ◌&&◌, cond, List, [], ◌∷◌, ℕ, zero, suc, ◌+◌, ◌≤◌, eqb, ltb, get_or, length, set}
-use Rattle.program.specs.Rule.{RuleOf}
-use Rattle.program.specs.Image.{literals, counted_bytes}
+use Rattle.std.specs.Prelude.{◌≡◌, Bool, true, false, not, ◌&&◌, ◌||◌, cond, List, [], ◌∷◌, ℕ, zero, suc, ◌+◌, ◌≤◌, eqb, ltb, get_or, length, set, Option, Some, None}
+use Rattle.program.specs.Rule.{RuleOf, Rule}
+use Rattle.program.specs.Literals.{Slotted, slotted_used, slotted_bytes}
+use Rattle.program.specs.Image.{literals}
 use Rattle.flat.specs.Table.{Slot}
 use Rattle.flat.specs.Flat.{Term, constant, name, map_rule, removes, reduce}
 use Rattle.table.specs.declared.Literals.{Literals}
-use Rattle.table.specs.declared.Made.{Made}
 use Rattle.table.specs.Shapes.{slot_number, shape_rule}
 
 -- The numbers of the two constants, above every name's.
@@ -40,52 +40,48 @@ all_names terms = is_name 0 && (is_name 1 && (is_name 2 && is_name 3))
     is_name : ℕ → Bool
     is_name j = ltb (get_or terms j 0) false_term
 
--- Behind the terms of x, y, L and M stands 0, which is what an unused slot holds.
-abbrev pub Ended : List ℕ → Type 0
-Ended terms = get_or terms 4 0 ≡ 0
+-- No literals yet,
+abbrev pub no_literals : Literals
+no_literals = record { used = 0; slots = 0 ∷ 0 ∷ 0 ∷ [] }
 
--- One literal more, where the constant `removing` removes the rule: any other constant is dropped, and a name takes the next slot.
-abbrev pub added : Literals → (removing term : ℕ) → Literals
+-- and one literal more: the constant `removing` removes the rule, any other constant is dropped, and a name takes the next slot.
+abbrev pub added : Literals → (removing term : ℕ) → Option Literals
 added l removing term =
-    cond (eqb term removing) (record { kept = false; used = l.used; slots = l.slots })
-    (cond (eqb term false_term) l
-    (cond (eqb term true_term) l (record { kept = l.kept; used = l.used + 1; slots = set l.slots l.used term })))
+    cond (eqb term removing) None (Some (cond (eqb term false_term || eqb term true_term) l (record { used = l.used + 1; slots = set l.slots l.used term })))
 
--- The terms f 0, f 1, .. and so on added: n literals more.
-unfoldable pub added_to : Literals → (removing : ℕ) → (ℕ → ℕ) → (n : ℕ) → Literals
-added_to l removing f zero = l
-added_to l removing f (suc n) = added (added_to l removing f n) removing (f n)
+-- The same of a rule that may be removed already,
+abbrev added_if : Option Literals → (removing term : ℕ) → Option Literals
+added_if None removing term = None
+added_if (Some l) removing term = added l removing term
+
+-- and the terms f 0, f 1, .. and so on: n literals more.
+unfoldable pub added_to : Literals → (removing : ℕ) → (ℕ → ℕ) → (n : ℕ) → Option Literals
+added_to l removing f zero = Some l
+added_to l removing f (suc n) = added_if (added_to l removing f n) removing (f n)
 
 -- The first three of a list, 0 where it ends.
 abbrev pub first_three : List ℕ → List ℕ
 first_three l = get_or l 0 0 ∷ get_or l 1 0 ∷ get_or l 2 0 ∷ []
 
--- A rule with its constants gone: whether it stays, its counts and its slots.
-unfoldable pub made_of : RuleOf Term → Made
-made_of r = record {
-  kept = not (removes r);
-  heads = length (reduce r).heads;
-  positives = length (reduce r).positives;
-  negatives = length (reduce r).negatives;
-  slots = first_three (literals (reduce r));
-}
+-- A rule in its slots,
+abbrev pub slotted : Rule → Slotted
+slotted r = record { heads = length r.heads; positives = length r.positives; negatives = length r.negatives; slots = first_three (literals r) }
 
--- How many literals it has,
-abbrev pub made_used : Made → ℕ
-made_used m = m.heads + m.positives + m.negatives
-
--- and that they are three at most.
-abbrev pub Few : Made → Type 0
-Few m = made_used m ≤ 3
+-- and a rule with its constants gone, if it stays.
+unfoldable pub made_of : RuleOf Term → Option Slotted
+made_of r = cond (removes r) None (Some (slotted (reduce r)))
 
 -- How many rules stay of one: it, or none;
-abbrev pub made_count : Made → ℕ
-made_count m = cond m.kept 1 0
+abbrev pub made_count : Option Slotted → ℕ
+made_count None = 0
+made_count (Some m) = 1
 
 -- how many literals,
-abbrev pub made_literals : Made → ℕ
-made_literals m = cond m.kept (made_used m) 0
+abbrev pub made_literals : Option Slotted → ℕ
+made_literals None = 0
+made_literals (Some m) = slotted_used m
 
 -- and the bytes of what stays.
-abbrev pub made_bytes : (packed : Bool) → Made → List ℕ
-made_bytes packed m = cond m.kept (counted_bytes packed m.heads m.positives m.negatives m.slots) []
+abbrev pub made_bytes : (packed : Bool) → Option Slotted → List ℕ
+made_bytes packed None = []
+made_bytes packed (Some m) = slotted_bytes packed m

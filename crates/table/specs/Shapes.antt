@@ -1,8 +1,9 @@
 -- The rule table in numbers, as the code has it: a row for each rule, and where the rows of each kind stand. Notes on the code, which no public promise names.
-use Rattle.std.specs.Prelude.{◌≡◌, cond, List, [], ◌∷◌, ℕ, ◌+◌, ◌≤◌, ◌<◌, eqb, ltb, length, get_or}
+use Rattle.std.specs.Prelude.{◌≡◌, cond, List, [], ◌∷◌, ℕ, ◌+◌, ◌≤◌, ◌<◌, eqb, ltb, length, get_or, take, drop}
 use Rattle.wire.specs.Sequence.{up_to}
 use Rattle.program.specs.Rule.{RuleOf}
-use Rattle.flat.specs.Table.{Slot, x, y, L, M}
+use Rattle.theory.specs.Book.{Kind, False, True, Atom, Not, And, Or, Implies}
+use Rattle.flat.specs.Table.{Slot, x, y, L, M, rows}
 
 -- A row: heads, positives, negatives, and which term in which slot, where x is 0, y 1, L 2 and M 3; 4 is an unused slot.
 abbrev shape : (heads positives negatives : ℕ) → (first second third : ℕ) → List ℕ
@@ -27,27 +28,19 @@ shapes =
     shape 0 2 0 3 1 4 ∷  -- ← M, y
     []
 
--- Of each kind from 0 to 6 its first row, its number of rows, its number of labels and its rows' number of literals.
-abbrev kind_row : (first count labels literals : ℕ) → List ℕ
-kind_row f c l n = f ∷ c ∷ l ∷ n ∷ []
+-- The first row of each kind,
+abbrev pub first_row : Kind → ℕ
+first_row False = 0
+first_row True = 0
+first_row Atom = 0
+first_row Not = 0
+first_row And = 2
+first_row Or = 5
+first_row Implies = 8
 
-abbrev pub kinds : List (List ℕ)
-kinds = kind_row 0 0 0 0 ∷ kind_row 0 0 0 0 ∷ kind_row 0 0 0 0 ∷ kind_row 0 2 1 4 ∷ kind_row 2 3 1 7 ∷ kind_row 5 3 1 7 ∷ kind_row 8 6 2 14 ∷ []
-
-abbrev pub first_row : (kind : ℕ) → ℕ
-first_row k = get_or (get_or kinds k []) 0 0
-
-abbrev pub row_count : (kind : ℕ) → ℕ
-row_count k = get_or (get_or kinds k []) 1 0
-
-abbrev pub labels_in : List (List ℕ) → (kind : ℕ) → ℕ
-labels_in index k = get_or (get_or index k []) 2 0
-
-abbrev pub labels_of : (kind : ℕ) → ℕ
-labels_of k = labels_in kinds k
-
-abbrev pub literals_of : (kind : ℕ) → ℕ
-literals_of k = get_or (get_or kinds k []) 3 0
+-- and its rows.
+abbrev pub kind_shapes : Kind → List (List ℕ)
+kind_shapes kind = take (length (rows kind)) (drop (first_row kind) shapes)
 
 -- How many literals rows have.
 abbrev pub row_literals : RuleOf Slot → ℕ
@@ -56,12 +49,6 @@ row_literals r = length r.heads + length r.positives + length r.negatives
 abbrev pub rows_literals : List (RuleOf Slot) → ℕ
 rows_literals [] = 0
 rows_literals (r ∷ rs) = row_literals r + rows_literals rs
-
--- A table and an index of the kinds are these, and the kind is one of theirs.
-pub record KindIn (table index : List (List ℕ)) (kind : ℕ) : Type 0 where
-  pub rows : table ≡ shapes
-  pub counts : index ≡ kinds
-  pub known : kind < 7
 
 -- How many slots a row uses.
 abbrev pub used_by : List ℕ → ℕ
@@ -96,7 +83,3 @@ shape_rule s = record {
   positives = slots_from s (3 + get_or s 0 0) (get_or s 1 0);
   negatives = slots_from s (3 + get_or s 0 0 + get_or s 1 0) (get_or s 2 0);
 }
-
--- Row j of a kind.
-abbrev pub kind_shape : (kind j : ℕ) → List ℕ
-kind_shape k j = get_or shapes (first_row k + j) []

@@ -1,11 +1,15 @@
-//! The rule table as the code has it, and one rule of it: its slots filled, its constants gone, its bytes written.
+//! The rule table as the code has it, and one rule of it: made, with its constants gone, and written.
 #![tactic(auto)]
 
-ghost use Rattle.std.specs.Prelude.{◌≡◌, true, cond, ◌+◌, ◌≤◌, ◌<◌, length, get_or};
+ghost use Rattle.std.specs.Prelude.{◌≡◌, true, ◌+◌, ◌≤◌, ◌<◌, length, get_or};
 ghost use Rattle.wire.specs.Wire.{over};
+ghost use Rattle.flat.specs.Table.{rows, label_count};
 ghost use Rattle.flat.specs.Flat.{fact};
-ghost use Rattle.table.specs.Shapes.{shapes, kinds, Named, Fillable};
-ghost use Rattle.table.specs.OneRule.{decode, rule_in, all_names, Ended, added, added_to, made_of, Few, made_literals, made_bytes};
+ghost use Rattle.table.specs.Shapes.{kind_shapes, rows_literals, Named, Fillable};
+ghost use Rattle.table.specs.OneRule.{decode, rule_in, all_names, no_literals, added, added_to, made_of, made_bytes, made_count, made_literals};
+
+use program::Rule;
+use theory::Kind;
 
 // What may stand in a slot: the terms x of left and y of right, the node's label L, and M, the label for the negation of right.
 const X: u8 = 0;
@@ -20,7 +24,7 @@ const M: u8 = 3;
 const NONE: u8 = 4;
 
 // A row for each rule: heads, positives, negatives, and which term in which slot.
-const SHAPES: [[u8; 6]; 14] = [
+static SHAPES: [[u8; 6]; 14] = [
     [1, 0, 1, L, X, NONE],
     [0, 2, 0, L, X, NONE],
     [1, 1, 0, X, L, NONE],
@@ -38,7 +42,7 @@ const SHAPES: [[u8; 6]; 14] = [
 ];
 
 // Of each kind its first row, its number of rows, its number of labels and its rows' number of literals.
-const KINDS: [[u8; 4]; 7] = [
+static KINDS: [[u8; 4]; 7] = [
     [0, 0, 0, 0],
     [0, 0, 0, 0],
     [0, 0, 0, 0],
@@ -48,17 +52,27 @@ const KINDS: [[u8; 4]; 7] = [
     [8, 6, 2, 14],
 ];
 
-// The table, and the index of the kinds: those of the definitions.
-pub fn shapes() -> [[u8; 6]; 14]
-    ensures { result ≡ shapes }
+// The rows of a kind.
+pub fn rows(kind: Kind) -> &'static [[u8; 6]]
+    ensures { result.now ≡ kind_shapes kind }
 {
-    SHAPES
+    let [first, count, _, _] = KINDS[kind as usize];
+    let first = usize::from(first);
+    &SHAPES[first..first + usize::from(count)]
 }
 
-pub fn kinds() -> [[u8; 4]; 7]
-    ensures { result ≡ kinds }
+// How many labels a node of a kind takes.
+pub fn label_count(kind: Kind) -> usize
+    ensures { (result ≡ label_count kind) × (result ≤ 2) }
 {
-    KINDS
+    usize::from(KINDS[kind as usize][2])
+}
+
+// How many literals a kind's rows have.
+pub fn literal_count(kind: Kind) -> usize
+    ensures { (result ≡ rows_literals (rows kind)) × (result ≤ 14) }
+{
+    usize::from(KINDS[kind as usize][3])
 }
 
 // The terms that are constants; every other term is an atom's number or a label's.
@@ -66,202 +80,151 @@ pub const FALSE: usize = 65534;
 
 pub const TRUE: usize = 65535;
 
-// The literals of a rule that is being made: whether the rule stays, how many slots are used, and the slots.
+// The terms of x, y, L and M, and behind them 0, which an unused slot holds.
 #[derive(Clone, Copy)]
-pub struct Literals {
-    pub kept: bool,
-    pub used: usize,
-    pub slots: [usize; 3],
+pub struct Terms {
+    pub numbers: [usize; 5],
+    ghost ended: { get_or numbers 4 0 ≡ 0 },
 }
 
-// A rule with its constants gone: whether it stays, its counts and its slots.
-#[derive(Clone, Copy)]
-pub struct Made {
-    pub kept: bool,
-    pub heads: usize,
-    pub positives: usize,
-    pub negatives: usize,
-    pub slots: [usize; 3],
+impl Terms {
+    // Are they all names?
+    pub fn all_names(&self) -> bool
+        ensures { result ≡ all_names self.now.numbers }
+    {
+        self.numbers[0] < FALSE
+            && (self.numbers[1] < FALSE && (self.numbers[2] < FALSE && self.numbers[3] < FALSE))
+    }
 }
 
-// One literal more.
-fn add(literals: Literals, removing: usize, term: usize) -> Literals
-    requires { literals.used < 3 }
-    ensures { result ≡ added literals removing term }
-{
-    let used = literals.used;
-    let mut slots = literals.slots;
-    if term == removing {
-        return Literals {
-            kept: false,
-            used,
+// The literals of a rule that is being made: how many slots are used, and the slots.
+#[derive(Clone, Copy)]
+struct Literals {
+    used: usize,
+    slots: [usize; 3],
+}
+
+impl Literals {
+    // None yet.
+    fn none() -> Literals
+        ensures { result ≡ no_literals }
+    {
+        Literals {
+            used: 0,
+            slots: [0, 0, 0],
+        }
+    }
+
+    // One literal more, or none where its term removes the rule.
+    fn add(self, removing: usize, term: usize) -> Option<Literals>
+        requires { self.used < 3 }
+        ensures { result ≡ added self removing term }
+    {
+        if term == removing {
+            return None;
+        }
+        if term == FALSE || term == TRUE {
+            return Some(self);
+        }
+        let mut slots = self.slots;
+        slots[self.used] = term;
+        Some(Literals {
+            used: self.used + 1,
             slots,
-        };
+        })
     }
-    if term == FALSE {
-        return literals;
-    }
-    if term == TRUE {
-        return literals;
-    }
-    slots[used] = term;
-    Literals {
-        kept: literals.kept,
-        used: used + 1,
-        slots,
-    }
-}
 
-// The terms of `count` slots of a shape more, from the slot at `start` on.
-fn add_slots(
-    literals: Literals,
-    removing: usize,
-    shape: &[u8; 6],
-    terms: &[usize; 5],
-    start: usize,
-    count: usize,
-) -> Literals
-    requires { (literals.used + count ≤ 3) × (start + count ≤ 6) × Named shape.now }
-    ensures { result ≡ added_to literals removing (λ j. get_or terms.now (get_or shape.now (start + j) 0) 0) count }
-{
-    let mut all = literals;
-    let mut j = 0;
-    while j < count {
-        let slot = shape[start + j] as usize;
-        all = add(all, removing, terms[slot]);
-        j += 1;
+    // The terms of `count` slots of a shape more, from the slot at `start` on.
+    fn add_slots(
+        self,
+        removing: usize,
+        shape: &[u8; 6],
+        terms: &Terms,
+        start: usize,
+        count: usize,
+    ) -> Option<Literals>
+        requires { (self.used + count ≤ 3) × (start + count ≤ 6) × Named shape.now }
+        ensures { result ≡ added_to self removing (λ j. get_or terms.now.numbers (get_or shape.now (start + j) 0) 0) count }
+    {
+        let mut all = self;
+        for j in start..start + count {
+            all = all.add(removing, terms.numbers[usize::from(shape[j])])?;
+        }
+        Some(all)
     }
-    all
-}
-
-// Are the terms of x, y, L and M all names?
-pub fn all_names(terms: &[usize; 5]) -> bool
-    ensures { result ≡ all_names terms.now }
-{
-    terms[0] < FALSE && (terms[1] < FALSE && (terms[2] < FALSE && terms[3] < FALSE))
 }
 
 // The rule of a shape, where the terms of x, y, L and M are all names: it stays with all its literals.
-fn make_of_names(shape: &[u8; 6], terms: &[usize; 5]) -> Made
-    requires fillable { Fillable shape.now × Ended terms.now }
-    requires terms_value { all_names terms.now ≡ true }
-    ensures { result ≡ made_of (rule_in shape.now terms.now) }
+fn make_of_names(shape: &[u8; 6], terms: &Terms) -> Rule
+    requires fillable { Fillable shape.now }
+    requires terms_value { all_names terms.now.numbers ≡ true }
+    ensures { Some result ≡ made_of (rule_in shape.now terms.now.numbers) }
 {
-    let heads = shape[0] as usize;
-    let positives = shape[1] as usize;
-    let negatives = shape[2] as usize;
-    let slots = [
-        terms[shape[3] as usize],
-        terms[shape[4] as usize],
-        terms[shape[5] as usize],
-    ];
-    Made {
-        kept: true,
-        heads,
-        positives,
-        negatives,
-        slots,
+    Rule {
+        heads: usize::from(shape[0]),
+        positives: usize::from(shape[1]),
+        negatives: usize::from(shape[2]),
+        slots: [
+            terms.numbers[usize::from(shape[3])],
+            terms.numbers[usize::from(shape[4])],
+            terms.numbers[usize::from(shape[5])],
+        ],
     }
 }
 
 // The rule of a shape, its literals added one by one, whatever the terms.
-fn make_of_terms(shape: &[u8; 6], terms: &[usize; 5]) -> Made
+fn make_of_terms(shape: &[u8; 6], terms: &Terms) -> Option<Rule>
     requires { Fillable shape.now }
-    ensures { result ≡ made_of (rule_in shape.now terms.now) }
+    ensures { result ≡ made_of (rule_in shape.now terms.now.numbers) }
 {
-    let heads = shape[0] as usize;
-    let positives = shape[1] as usize;
-    let none = Literals {
-        kept: true,
-        used: 0,
-        slots: [0, 0, 0],
-    };
-    let a = add_slots(none, TRUE, shape, terms, 3, heads);
-    let b = add_slots(a, FALSE, shape, terms, 3 + heads, positives);
-    let c = add_slots(
-        b,
-        TRUE,
-        shape,
-        terms,
-        3 + heads + positives,
-        shape[2] as usize,
-    );
+    let heads = usize::from(shape[0]);
+    let positives = usize::from(shape[1]);
+    let negatives = usize::from(shape[2]);
+    let a = Literals::none().add_slots(TRUE, shape, terms, 3, heads)?;
+    let b = a.add_slots(FALSE, shape, terms, 3 + heads, positives)?;
+    let c = b.add_slots(TRUE, shape, terms, 3 + heads + positives, negatives)?;
     let slots = c.slots;
-    Made {
-        kept: c.kept,
+    Some(Rule {
         heads: a.used,
         positives: b.used - a.used,
         negatives: c.used - b.used,
         slots,
-    }
+    })
 }
 
-// The rule of a shape, where x, y, L and M have these terms, by the straight way where no constant is among them.
-pub fn make(shape: &[u8; 6], terms: &[usize; 5]) -> Made
-    requires { Fillable shape.now × Ended terms.now }
-    ensures { result ≡ made_of (rule_in shape.now terms.now) }
+// The rule of a shape, where x, y, L and M have these terms, by the straight way where no constant is among them; none where it is removed.
+pub fn make(shape: &[u8; 6], terms: &Terms) -> Option<Rule>
+    requires { Fillable shape.now }
+    ensures { result ≡ made_of (rule_in shape.now terms.now.numbers) }
 {
-    if all_names(terms) {
-        return make_of_names(shape, terms);
+    if terms.all_names() {
+        return Some(make_of_names(shape, terms));
     }
     make_of_terms(shape, terms)
 }
 
-// How many rules stay of one that was made.
-pub fn stays(kept: bool) -> usize
-    ensures { (result ≡ cond kept 1 0) × (result ≤ 1) }
-{
-    if kept { 1 } else { 0 }
-}
-
-// How many literals of it stay.
-pub fn literals_of(made: Made) -> usize
-    requires { Few made }
-    ensures { (result ≡ made_literals made) × (result ≤ 3) }
-{
-    if made.kept {
-        made.heads + made.positives + made.negatives
-    } else {
-        0
-    }
-}
-
 // The fact that holds a term, if it stays.
-pub fn fact_of(term: usize) -> Made
+pub fn fact_of(term: usize) -> Option<Rule>
     ensures { result ≡ made_of (fact (decode term)) }
 {
-    let none = Literals {
-        kept: true,
-        used: 0,
-        slots: [0, 0, 0],
-    };
-    let head = add(none, TRUE, term);
+    let head = Literals::none().add(TRUE, term)?;
     let slots = head.slots;
-    Made {
-        kept: head.kept,
+    Some(Rule {
         heads: head.used,
         positives: 0,
         negatives: 0,
         slots,
-    }
+    })
 }
 
 // Writes what stays of a rule over the start of `out`, and gives how many bytes that is.
-pub fn put_rule(out: &mut [u8], packed: bool, made: Made) -> usize
-    requires { Few made × (length (made_bytes packed made) ≤ length out.old) }
-    ensures value { result ≡ length (made_bytes packed made) }
-    ensures out_after { out.new ≡ over (made_bytes packed made) out.old }
+pub fn put_rule(out: &mut [u8], packed: bool, made: &Option<Rule>) -> usize
+    requires { length (made_bytes packed made.now) ≤ length out.old }
+    ensures value { result ≡ length (made_bytes packed made.now) }
+    ensures out_after { out.new ≡ over (made_bytes packed made.now) out.old }
 {
-    if !made.kept {
-        return 0;
+    match made {
+        Some(rule) => rule.put(out, packed),
+        None => 0,
     }
-    let slots = made.slots;
-    program::put_rule(
-        out,
-        packed,
-        made.heads,
-        made.positives,
-        made.negatives,
-        slots,
-    )
 }

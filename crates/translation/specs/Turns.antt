@@ -3,13 +3,13 @@ use Rattle.std.specs.Prelude.{◌≡◌, false, List, [], ◌∷◌, ◌++◌, m
 use Rattle.refusal.specs.Limits.{most_atoms, most_nodes, most_roots}
 use Rattle.wire.specs.Sequence.{up_to}
 use Rattle.logic.specs.Value.{number, of_byte, negation}
-use Rattle.theory.specs.Book.{Node}
-use Rattle.theory.specs.Image.{atom_count, node_count, node_section, kind_of, node_in, breaks, root_in, pair_in}
+use Rattle.theory.specs.Book.{Kind, Node}
+use Rattle.theory.specs.Image.{atom_count, node_count, node_section, node_in, breaks, root_in, pair_in}
 use Rattle.program.specs.Rule.{Rule}
 use Rattle.program.specs.Image.{literal_total}
 use Rattle.flat.specs.Table.{rows, label_count}
 use Rattle.flat.specs.Flat.{Term, term, instances, node_rules, fact, simplify, pair_rule, label_total}
-use Rattle.table.specs.Shapes.{labels_of, shape_rule, kind_shape}
+use Rattle.table.specs.Shapes.{shape_rule, kind_shapes}
 use Rattle.table.specs.OneRule.{code, decode, filled}
 
 -- The nodes' section of an image that the check accepts, with A atoms and N nodes.
@@ -65,12 +65,12 @@ abbrev pub slot_terms : (scratch : List ℕ) → (next : ℕ) → Node → List 
 slot_terms scratch next n = get_or scratch n.left 0 ∷ get_or scratch n.right 0 ∷ next ∷ (next + 1) ∷ 0 ∷ []
 
 -- The rules of a kind where x, y, L and M have these numbers,
-abbrev pub kind_rules : (terms : List ℕ) → (kind : ℕ) → List Rule
-kind_rules terms kind = instances (filled terms) (rows (kind_of kind))
+abbrev pub kind_rules : (terms : List ℕ) → Kind → List Rule
+kind_rules terms kind = instances (filled terms) (rows kind)
 
 -- and those of its first j rows.
-unfoldable pub rows_to : (terms : List ℕ) → (kind j : ℕ) → List Rule
-rows_to terms kind j = instances (filled terms) (up_to (λ i. shape_rule (kind_shape kind i)) j)
+unfoldable pub rows_to : (terms : List ℕ) → Kind → (j : ℕ) → List Rule
+rows_to terms kind j = instances (filled terms) (map shape_rule (take j (kind_shapes kind)))
 
 -- So many rules with so many literals are those of a list, three literals a rule at most.
 pub record Counted (rs : List Rule) (rules literals : ℕ) : Type 0 where
@@ -89,7 +89,7 @@ Numbered t scratch = NumberedTo (atom_count t) (node_section t) (node_count t) s
 -- The bytes of the labels of node k, where the nodes' values stand in a scratch: L holds the node's value, and M that of not its right side.
 abbrev pub label_bytes : (values : List ℕ) → (s : List ℕ) → (k : ℕ) → List ℕ
 label_bytes values s k =
-    take (labels_of (get_or s (k * 6) 0)) (get_or values k 0 ∷ number (negation (of_byte (get_or values (node_in s k).right 0))) ∷ [])
+    take (label_count (node_in s k).kind) (get_or values k 0 ∷ number (negation (of_byte (get_or values (node_in s k).right 0))) ∷ [])
 
 -- Those of the labels of the first k nodes.
 unfoldable pub labels_to : (values : List ℕ) → (s : List ℕ) → (k : ℕ) → List ℕ
