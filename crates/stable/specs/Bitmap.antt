@@ -2,11 +2,9 @@
 use Rattle.std.specs.Prelude.{◌≡◌, Bool, true, cond, List, [], ◌∷◌, ◌++◌, ℕ, zero, suc, ◌+◌, ◌/◌, ◌%◌, ◌^◌, ◌≤◌, length, get_or}
 use Rattle.wire.specs.Sequence.{up_to}
 use Rattle.refusal.specs.Limits.{most_nodes, most_listed}
-use Rattle.refusal.specs.Table.{none}
 use Rattle.logic.specs.AnswerSet.{is_answer_set}
 use Rattle.theory.specs.Book.{book_formulas}
 use Rattle.theory.specs.Image.{atom_count, book_of}
-use Rattle.theory.specs.Rows.{theory_rows}
 use Rattle.stable.specs.Subset.{odd}
 use Rattle.stable.specs.Number.{number_of, set_of_number}
 
@@ -27,9 +25,8 @@ eight_of test from = number_of (up_to (λ j. test (from + j)) 8)
 unfoldable pub is_listed : List ℕ → ℕ → Bool
 is_listed theory c = is_answer_set (atom_count theory) (book_formulas (book_of theory)) (set_of_number (atom_count theory) c)
 
--- The theory is checked and has few atoms, and there is room for a reading of it and for the values of nodes.
+-- The theory has few atoms, and there is room for a reading of it and for the values of nodes.
 pub record Listable (theory reading values : List ℕ) : Type 0 where
-  pub checked : none (theory_rows theory) ≡ true
   pub few : atom_count theory ≤ most_listed
   pub sized : length reading ≡ atom_count theory
   pub long : most_nodes ≤ length values

@@ -1,5 +1,5 @@
 pub mod Subset
 pub mod Number
-pub mod Image
+pub mod Testable
 pub mod Listing
 pub mod Bitmap

@@ -1,39 +1,79 @@
 //! The candidate test of either image, and the listing of a small theory's answer sets.
 #![tactic(auto)]
 
-ghost use Rattle.std.specs.Prelude.{◌≡◌, true, ℕ, ◌+◌, ◌*◌, ◌^◌, ◌≤◌, ◌<◌, length, take};
+ghost use Rattle.std.specs.Prelude.{◌≡◌, true, ℕ, List, ◌+◌, ◌*◌, ◌^◌, ◌≤◌, ◌<◌, length, take};
 ghost use Rattle.wire.specs.Wire.{over, all_below};
-ghost use Rattle.refusal.specs.Limits.{most_b, most_true};
+ghost use Rattle.refusal.specs.Limits.{most_nodes, most_b, most_true};
 ghost use Rattle.refusal.specs.Table.{none, answer};
-ghost use Rattle.refusal.specs.Rows.{candidate_rows, count_true};
-ghost use Rattle.logic.specs.Formula.{reading_of, satisfies};
+ghost use Rattle.refusal.specs.Refusal.{answer_of};
+ghost use Rattle.refusal.specs.Rows.{count_true};
+ghost use Rattle.logic.specs.Formula.{Formula, reading_of, satisfies};
 ghost use Rattle.logic.specs.Atoms.{Atoms};
 ghost use Rattle.logic.specs.AnswerSet.{is_answer_set};
 ghost use Rattle.theory.specs.Book.{book_formulas};
 ghost use Rattle.theory.specs.Image.{atom_count, book_of};
-ghost use Rattle.theory.specs.Rows.{theory_rows};
 ghost use Rattle.program.specs.Program.{program_formulas};
 ghost use Rattle.program.specs.Image.{size_of, program_of};
-ghost use Rattle.program.specs.Rows.{program_rows};
-ghost use Rattle.stable.specs.Image.{image_rows, atoms_of, most_bytes, most_values, formulas_of, Testable};
+ghost use Rattle.stable.specs.Testable.{Testable};
 ghost use Rattle.stable.specs.Subset.{set_of, Candidate, candidate_of, lowered, places_of};
 ghost use Rattle.stable.specs.Number.{set_of_number};
 ghost use Rattle.stable.specs.Listing.{numbers_bytes, sets_of, sets_rows, listed};
 ghost use Rattle.stable.specs.Bitmap.{bit_at, passing, eight_of, is_listed, Listable};
 
-use refusal::Answer;
+use program::Program;
+use refusal::Refusal;
+use theory::Theory;
 
-// Whether a reading satisfies the theory, or the program.
-fn satisfied(image: &[u8], program: bool, reading: &[u8], values: &mut [u8]) -> bool
-    requires image_value { none (image_rows program image.now) ≡ true }
-    requires reading_len { length reading.now ≡ atoms_of program image.now }
-    requires program_in_bounds { most_values program ≤ length values.old }
-    ensures { result ≡ satisfies (reading_of reading.now) (formulas_of program image.now) }
-{
-    if program {
-        return program::satisfied(image, reading);
+// A checked image, as evaluations and candidate tests see it: the atoms of its readings, and whether one of these satisfies it.
+pub trait Image {
+    ghost atoms_of: { Self → ℕ };
+
+    ghost formulas_of: { Self → List Formula };
+
+    // How many of its nodes may have a value.
+    ghost most_values: { ℕ };
+
+    // How many bytes a reading has.
+    fn reading_length(&self) -> usize
+        ensures { (result ≡ atoms_of self.now) × (result ≤ most_b) };
+
+    // Whether a reading satisfies it; `values` is room for the values of nodes.
+    fn satisfied_by(&self, reading: &[u8], values: &mut [u8]) -> bool
+        requires reading_len { length reading.now ≡ atoms_of self.now }
+        requires room { most_values ≤ length values.old }
+        ensures { result ≡ satisfies (reading_of reading.now) (formulas_of self.now) };
+}
+
+impl<'a> Image for Theory<'a> {
+    ghost atoms_of = { λ theory. atom_count theory.image.now };
+
+    ghost formulas_of = { λ theory. book_formulas (book_of theory.image.now) };
+
+    ghost most_values = { most_nodes };
+
+    fn reading_length(&self) -> usize {
+        self.atoms()
     }
-    theory::satisfied(image, reading, values)
+
+    fn satisfied_by(&self, reading: &[u8], values: &mut [u8]) -> bool {
+        self.satisfied(reading, values)
+    }
+}
+
+impl<'a> Image for Program<'a> {
+    ghost atoms_of = { λ program. size_of program.image.now };
+
+    ghost formulas_of = { λ program. program_formulas (program_of program.image.now) };
+
+    ghost most_values = { 0 };
+
+    fn reading_length(&self) -> usize {
+        self.size()
+    }
+
+    fn satisfied_by(&self, reading: &[u8], _values: &mut [u8]) -> bool {
+        self.satisfied(reading)
+    }
 }
 
 // 2 to the `k`.
@@ -52,16 +92,14 @@ fn places_of(candidate: &[u8], places: &mut [u16; refusal::MOST_TRUE]) -> usize
     requires places_len { length places.old ≡ most_true }
     ensures places_after { take result places.new ≡ places_of (set_of candidate.now) }
     ensures value { result ≡ count_true candidate.now }
-    ensures places_len_2 { length places.new ≡ most_true }
+    ensures places_len_after { length places.new ≡ most_true }
 {
     let mut count = 0;
-    let mut i = 0;
-    while i < candidate.len() {
-        if candidate[i] == 2 {
+    for (i, byte) in candidate.iter().enumerate() {
+        if *byte == 2 {
             places[count] = i as u16;
             count += 1;
         }
-        i += 1;
     }
     count
 }
@@ -71,79 +109,50 @@ fn step(places: &[u16], reading: &mut [u8])
     requires { all_below (length reading.old) places.now ≡ true }
     ensures { (T : Atoms) (m : ℕ) → places.now ≡ places_of T → reading.old ≡ lowered T m → reading.new ≡ lowered T (m + 1) }
 {
-    let mut k = 0;
-    while k < places.len() {
-        let at = places[k] as usize;
+    for place in places {
+        let at = usize::from(*place);
         if reading[at] == 1 {
             reading[at] = 2;
             return;
         }
         reading[at] = 1;
-        k += 1;
     }
 }
 
 // Whether the candidate that `reading` holds is an answer set: it satisfies, and no smaller reading does. These are stepped through in its place; `values` is room for the values of nodes.
-fn is_answer_set(image: &[u8], program: bool, reading: &mut [u8], values: &mut [u8]) -> bool
-    requires testable { Testable program image.now reading.old }
-    requires program_in_bounds { most_values program ≤ length values.old }
-    ensures { result ≡ is_answer_set (atoms_of program image.now) (formulas_of program image.now) (set_of reading.old) }
+fn is_answer_set<I: Image>(image: &I, reading: &mut [u8], values: &mut [u8]) -> bool
+    requires testable { Testable (I.atoms_of image.now) reading.old }
+    requires room { I.most_values ≤ length values.old }
+    ensures { result ≡ is_answer_set (I.atoms_of image.now) (I.formulas_of image.now) (set_of reading.old) }
 {
-    if !satisfied(image, program, reading, values) {
+    if !image.satisfied_by(reading, values) {
         return false;
     }
     let mut places = [0; refusal::MOST_TRUE];
     let count = places_of(reading, &mut places);
-    let full = two_to(count) - 1;
-    let mut m = 0;
-    while m < full {
+    for _ in 0..two_to(count) - 1 {
         step(&places[..count], reading);
-        if satisfied(image, program, reading, values) {
+        if image.satisfied_by(reading, values) {
             return false;
         }
-        m += 1;
     }
     true
 }
 
-// Whether a candidate is an answer set of a theory, or of a program; `reading` is room for it, and `values` for the values of nodes.
-fn test(
-    image: &[u8],
-    program: bool,
+// Whether a candidate is an answer set of an image whose readings have at most `READING` bytes and at most `VALUES` of whose nodes have a value.
+pub fn test<I: Image, const READING: usize, const VALUES: usize>(
+    image: &I,
     candidate: &[u8],
-    reading: &mut [u8],
-    values: &mut [u8],
 ) -> bool
-    requires testable { Testable program image.now candidate.now }
-    requires program_in_bounds { most_bytes program ≤ length reading.old }
-    requires program_in_bounds_2 { most_values program ≤ length values.old }
-    ensures { result ≡ is_answer_set (atoms_of program image.now) (formulas_of program image.now) (set_of candidate.now) }
+    requires testable { Testable (I.atoms_of image.now) candidate.now }
+    requires reading_room { I.atoms_of image.now ≤ READING }
+    requires values_room { I.most_values ≤ VALUES }
+    ensures { result ≡ is_answer_set (I.atoms_of image.now) (I.formulas_of image.now) (set_of candidate.now) }
 {
-    let atoms = wire::put(reading, candidate);
-    is_answer_set(image, program, &mut reading[..atoms], values)
-}
-
-// Whether a candidate is an answer set of a theory.
-pub fn test_theory(theory: &[u8], candidate: &[u8]) -> bool
-    requires theory_value { none (theory_rows theory.now) ≡ true }
-    requires candidate_value { none (candidate_rows (atom_count theory.now) candidate.now) ≡ true }
-    requires candidate_bound { count_true candidate.now ≤ most_true }
-    ensures { result ≡ is_answer_set (atom_count theory.now) (book_formulas (book_of theory.now)) (set_of candidate.now) }
-{
-    let mut reading = [0u8; refusal::MOST_ATOMS];
-    let mut values = [0u8; refusal::MOST_NODES];
-    test(theory, false, candidate, &mut reading, &mut values)
-}
-
-// Whether a candidate is an answer set of a program.
-pub fn test_program(program: &[u8], candidate: &[u8]) -> bool
-    requires program_value { none (program_rows program.now) ≡ true }
-    requires candidate_value { none (candidate_rows (size_of program.now) candidate.now) ≡ true }
-    requires candidate_bound { count_true candidate.now ≤ most_true }
-    ensures { result ≡ is_answer_set (size_of program.now) (program_formulas (program_of program.now)) (set_of candidate.now) }
-{
-    let mut reading = [0u8; refusal::MOST_B];
-    test(program, true, candidate, &mut reading, &mut [])
+    let mut reading = [0u8; READING];
+    let mut values = [0u8; VALUES];
+    let length = wire::put(&mut reading, candidate);
+    is_answer_set(image, &mut reading[..length], &mut values)
 }
 
 // Writes the candidate of the set with this number over all of `out`.
@@ -151,45 +160,39 @@ fn candidate_of(number: usize, out: &mut [u8])
     ensures { out.new ≡ candidate_of (set_of_number (length out.old) number) }
 {
     let mut rest = number;
-    let mut i = 0;
-    while i < out.len() {
-        out[i] = (rest % 2 * 2) as u8;
+    for byte in out {
+        *byte = (rest % 2 * 2) as u8;
         rest /= 2;
-        i += 1;
     }
 }
 
 // Which of the eight sets with the numbers from `from` on are answer sets, a bit for each; the last two slices are room for a test.
-fn eight(theory: &[u8], from: usize, reading: &mut [u8], values: &mut [u8]) -> u8
-    requires listable { Listable theory.now reading.old values.old }
+fn eight(theory: &Theory, from: usize, reading: &mut [u8], values: &mut [u8]) -> u8
+    requires listable { Listable theory.now.image.now reading.old values.old }
     requires from_bound { from ≤ 4096 }
-    ensures { result ≡ eight_of (is_listed theory.now) from }
+    ensures { result ≡ eight_of (is_listed theory.now.image.now) from }
 {
     let mut bits: usize = 0;
     let mut weight: usize = 1;
-    let mut j = 0;
-    while j < 8 {
+    for j in 0..8 {
         candidate_of(from + j, reading);
-        if is_answer_set(theory, false, reading, values) {
+        if is_answer_set(theory, reading, values) {
             bits += weight;
         }
         weight *= 2;
-        j += 1;
     }
     bits as u8
 }
 
 // Sets the bits of the numbers whose sets are answer sets; the slices between are room for a test.
-fn find_sets(theory: &[u8], reading: &mut [u8], values: &mut [u8], found: &mut [u8; 512])
-    requires listable { Listable theory.now reading.old values.old }
+fn find_sets(theory: &Theory, reading: &mut [u8], values: &mut [u8], found: &mut [u8; 512])
+    requires listable { Listable theory.now.image.now reading.old values.old }
     requires found_len { length found.old ≡ 512 }
-    ensures { (c : ℕ) → c < 2 ^ atom_count theory.now → bit_at found.new c ≡ is_listed theory.now c }
+    ensures { (c : ℕ) → c < 2 ^ atom_count theory.now.image.now → bit_at found.new c ≡ is_listed theory.now.image.now c }
 {
     let sets = two_to(reading.len());
-    let mut i = 0;
-    while i * 8 < sets {
+    for i in 0..sets.div_ceil(8) {
         found[i] = eight(theory, i * 8, reading, values);
-        i += 1;
     }
 }
 
@@ -206,15 +209,7 @@ fn count_set(bitmap: &[u8; 512], n: usize) -> usize
     requires { n ≤ 4096 }
     ensures { result ≡ length (passing (bit_at bitmap.now) n) }
 {
-    let mut count = 0;
-    let mut c = 0;
-    while c < n {
-        if bit_at(bitmap, c) {
-            count += 1;
-        }
-        c += 1;
-    }
-    count
+    (0..n).filter(|&c| bit_at(bitmap, c)).count()
 }
 
 // Writes the numbers of those that are set, two bytes each, over the start of `out`.
@@ -224,25 +219,21 @@ fn write_set(bitmap: &[u8; 512], n: usize, out: &mut [u8])
     ensures { out.new ≡ over (numbers_bytes (passing (bit_at bitmap.now) n)) out.old }
 {
     let mut at = 0;
-    let mut c = 0;
-    while c < n {
+    for c in 0..n {
         if bit_at(bitmap, c) {
-            let number = wire::u16_bytes(c);
-            at += wire::put(&mut out[at..], &number);
+            at += wire::put(&mut out[at..], &wire::u16_bytes(c));
         }
-        c += 1;
     }
 }
 
 // Writes each answer set of a small theory as its number, ascending, over the start of `out`; the result is their count.
-pub fn list_sets(theory: &[u8], out: &mut [u8]) -> Answer
-    requires { none (theory_rows theory.now) ≡ true }
-    ensures value { result ≡ answer (sets_rows theory.now out.old) (length (sets_of theory.now)) }
-    ensures out_after { out.new ≡ listed theory.now out.old }
+pub fn list_sets(theory: &Theory, out: &mut [u8]) -> Result<usize, Refusal>
+    ensures value { answer_of result ≡ answer (sets_rows theory.now.image.now out.old) (length (sets_of theory.now.image.now)) }
+    ensures out_after { out.new ≡ listed theory.now.image.now out.old }
 {
-    let atoms = theory::atoms(theory);
+    let atoms = theory.atoms();
     if refusal::MOST_LISTED < atoms {
-        return refusal::refuse(11, atoms);
+        return Err(Refusal::TooManyAtoms { atoms });
     }
     let mut reading = [0u8; refusal::MOST_LISTED];
     let mut values = [0u8; refusal::MOST_NODES];
@@ -251,8 +242,8 @@ pub fn list_sets(theory: &[u8], out: &mut [u8]) -> Answer
     let sets = two_to(atoms);
     let count = count_set(&found, sets);
     if out.len() < 2 * count {
-        return refusal::refuse(8, 2 * count);
+        return Err(Refusal::Room { needed: 2 * count });
     }
     write_set(&found, sets, out);
-    refusal::accept(count)
+    Ok(count)
 }

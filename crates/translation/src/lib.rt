@@ -206,7 +206,12 @@ fn write_nodes(
     let mut at = 0;
     for k in 0..count {
         let node = theory::node_at(nodes, k);
-        at += write_node(&mut out[at..], packed, node.kind, &slot_terms(node, terms, next));
+        at += write_node(
+            &mut out[at..],
+            packed,
+            node.kind,
+            &slot_terms(node, terms, next),
+        );
         next += table::label_count(node.kind);
     }
     at
