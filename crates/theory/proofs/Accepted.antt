@@ -110,41 +110,48 @@ module _ (t : List ℕ) (ok : none (theory_rows t) ≡ true) where
   pub accepted-used : (k : ℕ) → k < node_count t → used (book_of t) k ≡ true
   accepted-used k l = not-false _ ((first-none _ _).0 (none_at (row13 t ∷ []) parts.1 0) k l)
 
--- The facts one by one, as a tactic applies them.
+-- Facts that tactics are given: of rows on the header,
+module _ (t : List ℕ) (ok : none (header_rows t) ≡ true) where
+  pub header_long : 16 ≤ length t
+  header_long = (header-accepted t ok).long
 
-pub header_long : (t : List ℕ) → none (header_rows t) ≡ true → 16 ≤ length t
-header_long t h = (header-accepted t h).long
-
-pub header_whole : (t : List ℕ) → none (header_rows t) ≡ true → length t ≡ image_length (node_count t) (root_count t) (pair_count t)
-header_whole t h = (header-accepted t h).whole
+  pub header_whole : length t ≡ image_length (node_count t) (root_count t) (pair_count t)
+  header_whole = (header-accepted t ok).whole
 
 pub ruleset header_facts = (header_long, header_whole)
 
-pub form-header : (t : List ℕ) → none (form_rows t) ≡ true → none (header_rows t) ≡ true
-unfolding form_rows
-form-header t h = (none_split (header_rows t) (row6 t ∷ row7 t ∷ row15 t ∷ []) h).0
+-- of those of the form,
+module _ (t : List ℕ) (ok : none (form_rows t) ≡ true) where
+  pub form-header : none (header_rows t) ≡ true
+  unfolding form_rows
+  form-header = (none_split (header_rows t) (row6 t ∷ row7 t ∷ row15 t ∷ []) ok).0
 
-pub form_long : (t : List ℕ) → none (form_rows t) ≡ true → 16 ≤ length t
-form_long t h = header_long t (form-header t h)
+  pub form_long : 16 ≤ length t
+  form_long = (formed t ok).header.long
 
 pub ruleset form_facts = (form-header, form_long)
 
-pub theory-header : (t : List ℕ) → none (theory_rows t) ≡ true → none (header_rows t) ≡ true
-theory-header t h = form-header t (parts t h).0
+-- and of all.
+module _ (t : List ℕ) (ok : none (theory_rows t) ≡ true) where
+  pub theory-header : none (header_rows t) ≡ true
+  theory-header = form-header t (parts t ok).0
 
-pub theory_long : (t : List ℕ) → none (theory_rows t) ≡ true → 16 ≤ length t
-theory_long t h = (accepted t h).header.long
+  pub theory_long : 16 ≤ length t
+  theory_long = (accepted t ok).header.long
 
-pub theory_atoms : (t : List ℕ) → none (theory_rows t) ≡ true → atom_count t ≤ most_atoms
-theory_atoms t h = (accepted t h).header.few-atoms
+  pub theory_atoms : atom_count t ≤ most_atoms
+  theory_atoms = (accepted t ok).header.few-atoms
 
-pub theory_nodes : (t : List ℕ) → none (theory_rows t) ≡ true → node_count t ≤ most_nodes
-theory_nodes t h = (accepted t h).header.few-nodes
+  pub theory_nodes : node_count t ≤ most_nodes
+  theory_nodes = (accepted t ok).header.few-nodes
 
-pub theory_roots : (t : List ℕ) → none (theory_rows t) ≡ true → root_count t ≤ most_roots
-theory_roots t h = (accepted t h).header.few-roots
+  pub theory_roots : root_count t ≤ most_roots
+  theory_roots = (accepted t ok).header.few-roots
 
-pub theory_pairs : (t : List ℕ) → none (theory_rows t) ≡ true → pair_count t ≤ most_pairs
-theory_pairs t h = (accepted t h).header.few-pairs
+  pub theory_pairs : pair_count t ≤ most_pairs
+  theory_pairs = (accepted t ok).header.few-pairs
 
-pub ruleset theory_facts = (theory-header, theory_long, theory_atoms, theory_nodes, theory_roots, theory_pairs)
+  pub theory_whole : length t ≡ image_length (node_count t) (root_count t) (pair_count t)
+  theory_whole = (accepted t ok).header.whole
+
+pub ruleset theory_facts = (theory-header, theory_long, theory_whole, theory_atoms, theory_nodes, theory_roots, theory_pairs)

@@ -1,14 +1,9 @@
 -- `values` writes the values of the nodes' section, which are those of the book's nodes. Assumes nothing.
-use Rattle.std.proofs.Common.{arith, length-drop}
+use Rattle.std.proofs.Common.{arith}
 use Rattle.theory.specs.Image.{atom_count, node_section}
 use Rattle.theory.proofs.Accepted.{accepted, kept_fits}
 use Rattle.theory.proofs.NodeValues.{node_values-book_of}
 use Rattle.theory.proofs.Theory.values.Goals as goal
-
-pub write_values-requires-clause-count_in_bounds : goal.write_values-requires-clause-count_in_bounds
-write_values-requires-clause-count_in_bounds c =
-    let a = accepted c.args.self.now.image.now c.args.self.now.checked in
-    (rw (c.node_section.ensures, length-drop) (omega (arith, a.header)), omega arith)
 
 pub write_values-requires-clause-by_index : goal.write_values-requires-clause-by_index
 write_values-requires-clause-by_index c =
