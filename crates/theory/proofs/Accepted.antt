@@ -2,10 +2,10 @@
 use mathlib.Core.Path.{◌≡◌}
 use mathlib.Core.Bool.{true, false}
 use mathlib.Core.List.{List, [], ◌∷◌}
-use Prim.Native.Nat.{ℕ, ◌-◌, ◌*◌, ◌≤◌, ◌<◌}
+use Prim.Native.Nat.{ℕ, ◌*◌, ◌≤◌, ◌<◌}
 use native.Mathlib.Nat.{zero-add}
 use native.Mathlib.Omega.{arith}
-use lib.ListN.{length, get_or, take, drop}
+use lib.ListN.{length, get_or}
 use borrow.Author.Tests.{ltb-true, ltb-false, eqb-true, not-false}
 use Rattle.refusal.specs.Limits.{most_atoms, most_nodes, most_roots, most_pairs}
 use Rattle.refusal.specs.Table.{none}
@@ -13,7 +13,7 @@ use Rattle.refusal.proofs.Table.{none_at, none_split}
 use Rattle.refusal.proofs.First.{first-none}
 use Rattle.logic.proofs.Bools.{&&_join, ||-split}
 use Rattle.wire.specs.Sequence.{up_to}
-use Rattle.wire.proofs.Laws.{part_from, all_below-each}
+use Rattle.wire.proofs.Laws.{all_below-each}
 use Rattle.wire.proofs.Sequence.{length-up_to, get_d_up_to}
 use Rattle.theory.specs.Book.{Node, WellFormed, left_fits, right_fits, fits, pair_fits}
 use Rattle.theory.specs.Image.{atom_count, node_count, root_count, pair_count, image_length, node_section, root_section, pair_section, node_in, field_wrong, breaks, root_in, pair_in, book_of}
@@ -21,10 +21,6 @@ use Rattle.theory.specs.Used.{used}
 use Rattle.theory.specs.Rows.{row6, row7, row13, row15, header_rows, form_rows, theory_rows}
 use Rattle.theory.proofs.Books.{all_fit-each}
 use Rattle.theory.proofs.PairLaws.{pairs_fit-up_to}
-
--- A part of an image, from where a section starts to the end, is that section.
-pub section_from : (t : List ℕ) (n m : ℕ) → n ≡ m → take (length t - n) (drop n t) ≡ drop m t
-section_from t n m e = rw (part_from, e)
 
 -- What the rows on the header leave.
 pub record Header (t : List ℕ) : Type 0 where
@@ -113,3 +109,49 @@ module _ (t : List ℕ) (ok : none (theory_rows t) ≡ true) where
 
   pub accepted-used : (k : ℕ) → k < node_count t → used (book_of t) k ≡ true
   accepted-used k l = not-false _ ((first-none _ _).0 (none_at (row13 t ∷ []) parts.1 0) k l)
+
+-- Facts that tactics are given: of rows on the header,
+module _ (t : List ℕ) (ok : none (header_rows t) ≡ true) where
+  pub header_long : 16 ≤ length t
+  header_long = (header-accepted t ok).long
+
+  pub header_whole : length t ≡ image_length (node_count t) (root_count t) (pair_count t)
+  header_whole = (header-accepted t ok).whole
+
+pub ruleset header_facts = (header_long, header_whole)
+
+-- of those of the form,
+module _ (t : List ℕ) (ok : none (form_rows t) ≡ true) where
+  pub form-header : none (header_rows t) ≡ true
+  unfolding form_rows
+  form-header = (none_split (header_rows t) (row6 t ∷ row7 t ∷ row15 t ∷ []) ok).0
+
+  pub form_long : 16 ≤ length t
+  form_long = (formed t ok).header.long
+
+pub ruleset form_facts = (form-header, form_long)
+
+-- and of all.
+module _ (t : List ℕ) (ok : none (theory_rows t) ≡ true) where
+  pub theory-header : none (header_rows t) ≡ true
+  theory-header = form-header t (parts t ok).0
+
+  pub theory_long : 16 ≤ length t
+  theory_long = (accepted t ok).header.long
+
+  pub theory_atoms : atom_count t ≤ most_atoms
+  theory_atoms = (accepted t ok).header.few-atoms
+
+  pub theory_nodes : node_count t ≤ most_nodes
+  theory_nodes = (accepted t ok).header.few-nodes
+
+  pub theory_roots : root_count t ≤ most_roots
+  theory_roots = (accepted t ok).header.few-roots
+
+  pub theory_pairs : pair_count t ≤ most_pairs
+  theory_pairs = (accepted t ok).header.few-pairs
+
+  pub theory_whole : length t ≡ image_length (node_count t) (root_count t) (pair_count t)
+  theory_whole = (accepted t ok).header.whole
+
+pub ruleset theory_facts = (theory-header, theory_long, theory_whole, theory_atoms, theory_nodes, theory_roots, theory_pairs)

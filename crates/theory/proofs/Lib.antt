@@ -1,7 +1,6 @@
 pub mod Books
 pub mod PairLaws
 pub mod BenchCases
-pub mod Images
 pub mod Used
 pub mod Rows
 pub mod Accepted

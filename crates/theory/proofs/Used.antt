@@ -1,5 +1,6 @@
 -- Laws of the nodes that are used, and of their marks: an operand is an earlier node, and what is not marked in the end is not used. By cases on the kind, and by induction on the nodes and on what is marked.
-use mathlib.Core.Path.{◌≡◌, refl, ◌∙◌}
+use Rattle.std.proofs.Common.{position, length-take-le, get_or-take}
+use mathlib.Core.Path.{◌≡◌, refl, sym, ap, ◌∙◌}
 use mathlib.Core.Logic.{◌↔◌, ◌⊎◌, inl, inr, ⊎_elim}
 use mathlib.Core.Bool.{Bool, true, false, not, ◌||◌, cond, false≢true}
 use mathlib.Core.List.{List, [], ◌∷◌, ◌++◌, append_assoc, append-nil}
@@ -9,16 +10,17 @@ use Prim.Native.Nat.{ℕ, zero, suc, ◌+◌, ◌≤◌, ◌<◌}
 use native.Mathlib.Nat.{zero-add}
 use native.Mathlib.Omega.{arith}
 use lib.Dec.{eqb, ltb}
-use lib.ListN.{length, get_or, set, replicate, length-set, length-replicate, get_or-replicate}
+use lib.ListN.{length, get_or, set, take, replicate, length-set, length-replicate, get_or-replicate}
 use lib.Seq.{get_or-set_same, get_or-set_other}
 use borrow.Author.Tests.{lt-ltb, ltb-true, eq-eqb, eqb-true, eqb-false}
-use Rattle.refusal.specs.First.{first}
-use Rattle.refusal.proofs.First.{first_equal}
+use Rattle.refusal.specs.First.{found}
+use Rattle.refusal.proofs.First.{first_equal, below, position-below, found-below}
 use Rattle.refusal.proofs.Table.{cases}
 use Rattle.logic.proofs.Bools.{&&_split, &&_join, ||-iff}
 use Rattle.wire.specs.Wire.{all_below}
 use Rattle.wire.specs.Sequence.{up_to}
-use Rattle.wire.proofs.Sequence.{up_to_more}
+use Rattle.wire.proofs.Laws.{all_below_at, all_below-each}
+pub use Rattle.wire.proofs.Sequence.{up_to-none, up_to_more}
 use Rattle.theory.specs.Book.{Kind, False, True, Atom, Not, And, Or, Implies, Node, Book, node_at, left_limit, right_limit, fits, WellFormed}
 use Rattle.theory.specs.Used.{operands_of, operands, all_operands, among, used}
 use Rattle.theory.specs.Marks.{marked}
@@ -33,9 +35,17 @@ operands_of-below A k And l r h g = &&_join (lt-ltb l k h) (&&_join (lt-ltb r k 
 operands_of-below A k Or l r h g = &&_join (lt-ltb l k h) (&&_join (lt-ltb r k g) refl)
 operands_of-below A k Implies l r h g = &&_join (lt-ltb l k h) (&&_join (lt-ltb r k g) refl)
 
+-- What is below a number is below a larger one.
+all_below_more : (k m : ℕ) (ks : List ℕ) → k ≤ m → all_below k ks ≡ true → all_below m ks ≡ true
+all_below_more k m ks h below = all_below-each m ks (λ i l. omega (arith, all_below_at k ks below i l))
+
 -- The operands of node k are earlier nodes, where it keeps to its row.
 pub operands-below : (A k : ℕ) (n : Node) → fits A k n ≡ true → all_below k (operands n) ≡ true
 operands-below A k n ok = operands_of-below A k n.kind n.left n.right (fits-left A k n ok) (fits-right A k n ok)
+
+-- So they are among so many nodes as it is.
+pub operands-within : (A k m : ℕ) (n : Node) → k ≤ m → fits A k n ≡ true → all_below m (operands n) ≡ true
+operands-within A k m n h ok = all_below_more k m (operands n) h (operands-below A k n ok)
 
 all_below_in : (n : ℕ) (ks : List ℕ) (k : ℕ) → all_below n ks ≡ true → Memᴰ k ks → k < n
 all_below_in n [] k ok m = absurd (Memᴰ.not-nil m)
@@ -111,6 +121,9 @@ marked_at (j ∷ ks) marks k h =
     (λ t. let e = eqb-true k j t in rw (t, ← e, get_or-set_same marks k 1 0 h) (cases (among k ks) (λ m. rw m) (λ m. rw m)))
     (λ f. rw (f, get_or-set_other marks j k 1 0 (eqb-false k j f)))
 
+-- What a tactic needs of one turn more.
+pub ruleset mark_steps = (up_to-none, up_to_more, all_operands-up_to, marked_append)
+
 -- So where nothing was marked before, the first number that is not marked is the first that is not among them.
 
 mark_test : (x y : Bool) → eqb (cond y 1 (cond x 1 0)) 0 ≡ not (x || y)
@@ -120,9 +133,13 @@ mark_test false true = refl
 mark_test false false = refl
 
 pub unmarked_unused : (ks js : List ℕ) (M N : ℕ) → N ≤ M
-    → first (λ k. eqb (get_or (marked js (marked ks (replicate M 0))) k 0) 0) N ≡ first (λ k. not (among k ks || among k js)) N
+    → position (λ mark. eqb mark 0) (take N (marked js (marked ks (replicate M 0)))) ≡ found (λ k. not (among k ks || among k js)) N
 unmarked_unused ks js M N h =
     let none : List ℕ = replicate M 0 in
-    first_equal _ _ N (λ k l.
+    let marks : List ℕ = marked js (marked ks none) in
+    let long : length (take N marks) ≡ N = length-take-le N marks (simp (length_marked, length-replicate) h) in
+    position-below (λ mark. eqb mark 0) 0 (take N marks)
+    ∙ rw long (ap (λ k. below k N) (first_equal _ _ N (λ k l.
     let within : k < length none = rw length-replicate (omega arith) in
-    rw (marked_at js (marked ks none) k (rw length_marked within), marked_at ks none k within, get_or-replicate {A = ℕ} M k 0 0 (omega arith)) (mark_test (among k ks) (among k js)))
+    rw (get_or-take, marked_at js (marked ks none) k (rw length_marked within), marked_at ks none k within, get_or-replicate {A = ℕ} M k 0 0 (omega arith)) (mark_test (among k ks) (among k js)))))
+    ∙ sym (found-below (λ k. not (among k ks || among k js)) N)

@@ -2,7 +2,6 @@
 use Rattle.std.specs.Prelude.{◌≡◌, Bool, true, ◌&&◌, List, [], ◌∷◌, ◌++◌, map, ℕ, suc, ltb, get_or, length}
 use Rattle.wire.specs.Wire.{all_below}
 use Rattle.logic.specs.Formula.{Formula, falsum, verum, atom, neg, conj, disj, impl}
-
 -- The kinds of node, 0 to 6; a node: its kind, left and right; and a pair: an atom and its strong negation, the smaller number first.
 pub use Rattle.theory.specs.declared.Kind.{Kind}
 pub use Rattle.theory.specs.declared.Kind.TheVariants.{False, True, Atom, Not, And, Or, Implies}

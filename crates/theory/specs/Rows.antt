@@ -33,25 +33,16 @@ row5 t = record {
 }
 
 -- Row 6: a node breaks its row, or its zero byte is not 0; its place is eight times the first such node plus its first wrong field.
-abbrev pub nodes_row : (A : ℕ) → List ℕ → (N : ℕ) → Row
-nodes_row A s N = first_placed 6 (wrong_place A s) (breaks A s) N
-
 abbrev pub row6 : List ℕ → Row
-row6 t = nodes_row (atom_count t) (node_section t) (node_count t)
+row6 t = first_placed 6 (wrong_place (atom_count t) (node_section t)) (breaks (atom_count t) (node_section t)) (node_count t)
 
 -- Row 7: a root is not below N; its place is the first such root's index.
-abbrev pub roots_row : (N : ℕ) → List ℕ → (R : ℕ) → Row
-roots_row N s R = first_such 7 (λ i. not (ltb (root_in s i) N)) R
-
 abbrev pub row7 : List ℕ → Row
-row7 t = roots_row (node_count t) (root_section t) (root_count t)
+row7 t = first_such 7 (λ i. not (ltb (root_in (root_section t) i) (node_count t))) (root_count t)
 
 -- Row 15: a pair is not of two atoms below A, the smaller first; its place is the first such pair's index.
-abbrev pub pairs_row : (A : ℕ) → List ℕ → (P : ℕ) → Row
-pairs_row A s P = first_such 15 (λ i. not (pair_fits A (pair_in s i))) P
-
 abbrev pub row15 : List ℕ → Row
-row15 t = pairs_row (atom_count t) (pair_section t) (pair_count t)
+row15 t = first_such 15 (λ i. not (pair_fits (atom_count t) (pair_in (pair_section t) i))) (pair_count t)
 
 -- Row 13: a node is not used; its place is the first such node.
 abbrev pub row13 : List ℕ → Row

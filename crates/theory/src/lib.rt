@@ -1,7 +1,8 @@
 //! The theory image: whether it is one, and what its nodes, roots and pairs are worth under a reading.
 #![tactic(auto)]
 
-ghost use Rattle.std.specs.Prelude.{◌≡◌, true, not, ◌&&◌, ◌||◌, map, ℕ, ◌+◌, ◌*◌, ◌≤◌, ◌<◌, ◌↔◌, IfOk, IsTrue, eqb, ltb, length, get_or, take, replicate, position, [], ◌∷◌};
+ghost use Rattle.std.specs.Prelude.{◌≡◌, true, not, ◌&&◌, ◌||◌, map, ℕ, ◌+◌, ◌*◌, ◌≤◌, ◌<◌, IfOk, eqb, ltb, length, get_or, take, replicate, position, [], ◌∷◌};
+ghost use Rattle.std.specs.List.{list_all, range_with_len};
 ghost use Rattle.refusal.specs.Table.{none};
 ghost use Rattle.refusal.specs.First.{found};
 ghost use Rattle.refusal.specs.Limits.{most_atoms, most_nodes, most_roots, most_pairs};
@@ -14,7 +15,7 @@ ghost use Rattle.theory.specs.Book.{left_limit, right_limit, fits, pair_fits, pa
 ghost use Rattle.theory.specs.Image.{atom_count, node_count, root_count, pair_count, roots_start, pairs_start, node_section, root_section, pair_section, kind_of, node_in, wrong_number, first_wrong, root_in, pair_in, book_of};
 ghost use Rattle.theory.specs.Used.{operands, all_operands, used};
 ghost use Rattle.theory.specs.Marks.{marked};
-ghost use Rattle.theory.specs.Rows.{nodes_row, roots_row, pairs_row, header_rows, form_rows, theory_rows};
+ghost use Rattle.theory.specs.Rows.{row6, row7, row15, header_rows, form_rows, theory_rows};
 ghost use Rattle.theory.specs.NodeValues.{value_from, values_to, node_values};
 
 use logic::Value;
@@ -165,6 +166,7 @@ fn offsets_differ(theory: &[u8]) -> bool
 }
 
 // The rows on the header.
+#[tactic(auto, using(std::proofs::lemmas::Bool::Decides::nat_tests), unfolding(crate::specs::Rows::header_rows))]
 fn header(theory: &[u8]) -> Result<(), Refusal>
     ensures { Decides (header_rows theory.now) result }
 {
@@ -182,6 +184,36 @@ fn header(theory: &[u8]) -> Result<(), Refusal>
         return Err(Refusal::TheoryLength { wanted });
     }
     Ok(())
+}
+
+// The part of a theory with a good header that starts at its nodes, and has all of them.
+#[tactic(auto, using(crate::proofs::Accepted::header_facts))]
+fn node_part(theory: &[u8]) -> &[u8]
+    requires { none (header_rows theory.now) ≡ true }
+    ensures value { result.now ≡ node_section theory.now }
+    ensures room { node_count theory.now * 6 ≤ length result.now }
+{
+    &theory[16..]
+}
+
+// The part that starts at its roots, and has all of them.
+#[tactic(auto, using(crate::proofs::Accepted::header_facts))]
+fn root_part(theory: &[u8]) -> &[u8]
+    requires { none (header_rows theory.now) ≡ true }
+    ensures value { result.now ≡ root_section theory.now }
+    ensures room { root_count theory.now * 2 ≤ length result.now }
+{
+    &theory[roots_start(theory)..]
+}
+
+// The part that starts at its pairs, and has all of them.
+#[tactic(auto, using(crate::proofs::Accepted::header_facts))]
+fn pair_part(theory: &[u8]) -> &[u8]
+    requires { none (header_rows theory.now) ≡ true }
+    ensures value { result.now ≡ pair_section theory.now }
+    ensures room { pair_count theory.now * 4 ≤ length result.now }
+{
+    &theory[pairs_start(theory)..]
 }
 
 // What left has to be below, in node k of a theory with so many atoms.
@@ -206,6 +238,7 @@ fn right_limit(kind: Kind, k: usize) -> usize
 }
 
 // The first field of node k that is wrong: kind, zero byte, left, right.
+#[tactic(auto, using(std::proofs::lemmas::Bool::Decides::nat_tests), unfolding(refusal::specs::First::first))]
 fn first_wrong_field(nodes: &[u8], k: usize, atoms: usize) -> Option<Field>
     requires { k * 6 + 6 ≤ length nodes.now }
     ensures { wrong_number result ≡ first_wrong atoms nodes.now k }
@@ -226,13 +259,16 @@ fn first_wrong_field(nodes: &[u8], k: usize, atoms: usize) -> Option<Field>
     None
 }
 
-// Row 6 of so many nodes: the first that breaks its row, and its first field that is wrong.
-fn check_nodes(nodes: &[u8], atoms: usize, count: usize) -> Result<(), Refusal>
-    requires { (count * 6 ≤ length nodes.now) × (count < 65536) }
-    ensures { Decides (nodes_row atoms nodes.now count ∷ []) result }
+// Row 6: the first node that breaks its row, and its first field that is wrong.
+#[tactic(auto, using(crate::proofs::Accepted::header_facts))]
+fn check_nodes(theory: &[u8]) -> Result<(), Refusal>
+    requires { none (header_rows theory.now) ≡ true }
+    ensures { Decides (row6 theory.now ∷ []) result }
 {
-    for k in 0..count {
-        if let Some(field) = first_wrong_field(nodes, k, atoms) {
+    let section = node_part(theory);
+    let atoms = atoms(theory);
+    for k in 0..nodes(theory) {
+        if let Some(field) = first_wrong_field(section, k, atoms) {
             return Err(Refusal::Node {
                 node: k as u16,
                 field,
@@ -250,12 +286,13 @@ fn first_root_not_below(roots: &[u8], nodes: usize, count: usize) -> Option<usiz
     (0..count).find(|&i| nodes <= root_at(roots, i))
 }
 
-// Row 7 of so many roots.
-fn check_roots(roots: &[u8], nodes: usize, count: usize) -> Result<(), Refusal>
-    requires { count * 2 ≤ length roots.now }
-    ensures { Decides (roots_row nodes roots.now count ∷ []) result }
+// Row 7: the first root that is not a node.
+#[tactic(auto, using(crate::proofs::Accepted::header_facts))]
+fn check_roots(theory: &[u8]) -> Result<(), Refusal>
+    requires { none (header_rows theory.now) ≡ true }
+    ensures { Decides (row7 theory.now ∷ []) result }
 {
-    match first_root_not_below(roots, nodes, count) {
+    match first_root_not_below(root_part(theory), nodes(theory), roots(theory)) {
         Some(index) => Err(Refusal::Root { index }),
         None => Ok(()),
     }
@@ -276,12 +313,13 @@ fn first_bad_pair(pairs: &[u8], atoms: usize, count: usize) -> Option<usize>
     (0..count).find(|&i| !pair_fits(pair_at(pairs, i), atoms))
 }
 
-// Row 15 of so many pairs.
-fn check_pairs(pairs: &[u8], atoms: usize, count: usize) -> Result<(), Refusal>
-    requires { count * 4 ≤ length pairs.now }
-    ensures { Decides (pairs_row atoms pairs.now count ∷ []) result }
+// Row 15: the first pair that is not of two atoms, the smaller first.
+#[tactic(auto, using(crate::proofs::Accepted::header_facts))]
+fn check_pairs(theory: &[u8]) -> Result<(), Refusal>
+    requires { none (header_rows theory.now) ≡ true }
+    ensures { Decides (row15 theory.now ∷ []) result }
 {
-    match first_bad_pair(pairs, atoms, count) {
+    match first_bad_pair(pair_part(theory), atoms(theory), pairs(theory)) {
         Some(index) => Err(Refusal::Pair { index }),
         None => Ok(()),
     }
@@ -292,10 +330,9 @@ fn form(theory: &[u8]) -> Result<(), Refusal>
     ensures { Decides (form_rows theory.now) result }
 {
     header(theory)?;
-    let nodes = nodes(theory);
-    check_nodes(&theory[16..], atoms(theory), nodes)?;
-    check_roots(&theory[roots_start(theory)..], nodes, roots(theory))?;
-    check_pairs(&theory[pairs_start(theory)..], atoms(theory), pairs(theory))
+    check_nodes(theory)?;
+    check_roots(theory)?;
+    check_pairs(theory)
 }
 
 // Marks the operands of a node.
@@ -314,6 +351,7 @@ fn mark_operands(node: Node, marks: &mut [u8])
 }
 
 // Marks the operands of each of the first `count` nodes.
+#[tactic(auto, using(crate::proofs::Used::mark_steps))]
 fn mark_nodes(nodes: &[u8], count: usize, marks: &mut [u8])
     requires count_in_bounds { count * 6 ≤ length nodes.now }
     requires by_index { (k : ℕ) → k < count → all_below (length marks.old) (operands (node_in nodes.now k)) ≡ true }
@@ -325,6 +363,7 @@ fn mark_nodes(nodes: &[u8], count: usize, marks: &mut [u8])
 }
 
 // Marks each of the first `count` roots.
+#[tactic(auto, using(crate::proofs::Used::mark_steps))]
 fn mark_roots(roots: &[u8], count: usize, marks: &mut [u8])
     requires count_in_bounds { count * 2 ≤ length roots.now }
     requires by_index { (i : ℕ) → i < count → root_in roots.now i < length marks.old }
@@ -344,14 +383,15 @@ fn first_unmarked(marks: &[u8], count: usize) -> Option<usize>
 }
 
 // The first node of a well-formed book that is not used. What is used is marked in `marks`, which are 0 before.
+#[tactic(auto, using(crate::proofs::Accepted::form_facts))]
 fn first_unused(theory: &[u8], marks: &mut [u8]) -> Option<usize>
     requires theory_value { none (form_rows theory.now) ≡ true }
     requires marks_value { marks.old ≡ replicate most_nodes 0 }
     ensures { result ≡ found (λ k. not (used (book_of theory.now) k)) (node_count theory.now) }
 {
     let count = nodes(theory);
-    mark_nodes(&theory[16..], count, marks);
-    mark_roots(&theory[roots_start(theory)..], roots(theory), marks);
+    mark_nodes(node_part(theory), count, marks);
+    mark_roots(root_part(theory), roots(theory), marks);
     first_unmarked(marks, count)
 }
 
@@ -424,7 +464,7 @@ fn write_values(nodes: &[u8], reading: &[u8], values: &mut [u8], count: usize)
 fn roots_hold(roots: &[u8], values: &[u8], count: usize) -> bool
     requires count_in_bounds { count * 2 ≤ length roots.now }
     requires by_index { (i : ℕ) → i < count → root_in roots.now i < length values.now }
-    ensures { IsTrue result ↔ ((i : ℕ) → i < count → get_or values.now (root_in roots.now i) 0 ≡ 2) }
+    ensures { result ≡ list_all (λ i. eqb (get_or values.now (root_in roots.now i) 0) 2) (range_with_len 0 count) }
 {
     (0..count).all(|i| values[root_at(roots, i)] == 2)
 }
@@ -441,11 +481,12 @@ fn pair_holds(pair: Pair, reading: &[u8]) -> bool
 fn pairs_hold(pairs: &[u8], reading: &[u8], count: usize) -> bool
     requires count_in_bounds { count * 4 ≤ length pairs.now }
     requires by_index { (i : ℕ) → i < count → pair_fits (length reading.now) (pair_in pairs.now i) ≡ true }
-    ensures { IsTrue result ↔ ((i : ℕ) → i < count → true_here (value (reading_of reading.now) (pair_formula (pair_in pairs.now i))) ≡ true) }
+    ensures { result ≡ list_all (λ i. true_here (value (reading_of reading.now) (pair_formula (pair_in pairs.now i)))) (range_with_len 0 count) }
 {
     (0..count).all(|i| pair_holds(pair_at(pairs, i), reading))
 }
 
+#[tactic(auto, using(crate::proofs::Accepted::theory_facts))]
 impl<'a> Theory<'a> {
     // A, N, R and P.
     pub fn atoms(&self) -> usize
@@ -476,19 +517,19 @@ impl<'a> Theory<'a> {
     pub fn node_section(&self) -> &'a [u8]
         ensures { result.now ≡ node_section self.now.image.now }
     {
-        &self.image[16..]
+        node_part(self.image)
     }
 
     pub fn root_section(&self) -> &'a [u8]
         ensures { result.now ≡ root_section self.now.image.now }
     {
-        &self.image[roots_start(self.image)..]
+        root_part(self.image)
     }
 
     pub fn pair_section(&self) -> &'a [u8]
         ensures { result.now ≡ pair_section self.now.image.now }
     {
-        &self.image[pairs_start(self.image)..]
+        pair_part(self.image)
     }
 
     // Writes the value of each node under a reading, over the start of `values`.

@@ -1,0 +1,42 @@
+-- `first_unused` gives the first node that is not used: what is marked in the end are the operands of all nodes and the roots. Assumes nothing.
+use Rattle.std.proofs.Common.{◌≡◌, List, ℕ, ◌≤◌, arith, length, replicate, position, eqb, take, not}
+use lib.ListN.{length-replicate}
+use Rattle.refusal.specs.Limits.{most_nodes}
+use Rattle.refusal.specs.First.{found}
+use Rattle.wire.specs.Sequence.{up_to}
+use Rattle.theory.specs.Image.{atom_count, node_count, root_count, node_section, root_section, node_in, root_in, book_of}
+use Rattle.theory.specs.Used.{all_operands, used}
+use Rattle.theory.specs.Marks.{marked}
+use Rattle.theory.proofs.Used.{operands-within, unmarked_unused}
+use Rattle.theory.proofs.Accepted.{formed, kept_fits}
+use Rattle.theory.proofs.first_unused.Goals as goal
+
+-- There is a mark for each node.
+marks-long : {marks : List ℕ} → marks ≡ replicate most_nodes 0 → length marks ≡ most_nodes
+marks-long e = rw e (length-replicate {A = ℕ} most_nodes 0)
+
+-- The first that is not marked is the first that is not used.
+unused : (t : List ℕ) → node_count t ≤ most_nodes
+    → position (λ mark. eqb mark 0) (take (node_count t) (marked (up_to (root_in (root_section t)) (root_count t)) (marked (all_operands (up_to (node_in (node_section t)) (node_count t))) (replicate most_nodes 0))))
+    ≡ found (λ k. not (used (book_of t) k)) (node_count t)
+unfolding book_of
+unused t few = unmarked_unused (all_operands (up_to (node_in (node_section t)) (node_count t))) (up_to (root_in (root_section t)) (root_count t)) most_nodes (node_count t) few
+
+pub mark_nodes-requires-clause-by_index : goal.mark_nodes-requires-clause-by_index
+mark_nodes-requires-clause-by_index c =
+    let t = c.args.theory.now in
+    let a = formed t c.requires.theory_value in
+    λ k l. rw c.node_part.ensures.value (operands-within (atom_count t) k _ (node_in (node_section t) k) (omega (arith, a.header, marks-long c.requires.marks_value)) (kept_fits (atom_count t) (node_section t) k (a.nodes-keep k (omega arith))))
+
+pub mark_roots-requires-clause-by_index : goal.mark_roots-requires-clause-by_index
+mark_roots-requires-clause-by_index c =
+    let a = formed c.args.theory.now c.requires.theory_value in
+    λ i l. rw c.root_part.ensures.value (omega (arith, a.roots-below i (omega arith), a.header, marks-long c.requires.marks_value))
+
+pub first_unmarked-requires : goal.first_unmarked-requires
+first_unmarked-requires c = omega (arith, (formed c.args.theory.now c.requires.theory_value).header, marks-long c.requires.marks_value)
+
+pub returns : goal.returns
+returns c =
+    rw (c.first_unmarked.ensures, c.mark_roots.ensures, c.mark_nodes.ensures, c.requires.marks_value, c.node_part.ensures.value, c.root_part.ensures.value, c.nodes-count.ensures.0, c.roots.ensures.0)
+    (unused c.args.theory.now (formed c.args.theory.now c.requires.theory_value).header.few-nodes)
