@@ -15,7 +15,7 @@ use Rattle.wire.specs.Wire.{u16_at, u32_at}
 use Rattle.logic.proofs.Bools.{&&_split, ||-split}
 use Rattle.program.specs.Image.{atom_count, size_of, rule_count, is_packed, header_length, rule_section, most_literals, slot_count, used_at, slot_at, length_at, behind, slot_keeps, rule_keeps}
 use Rattle.program.specs.Literals.{Named}
-use Rattle.program.specs.Rows.{outside, total_keeps, broken_at, row22, row24, row25, row26, program_rows}
+use Rattle.program.specs.Rows.{outside, total_keeps, broken_at, row22, row24, row25, row26, header_rows, program_rows}
 use Rattle.program.proofs.Slots.{slots_keep_at}
 
 -- ---- the rows
@@ -75,6 +75,20 @@ none-program_rows p h =
       exact = eqb-true _ _ (not-false _ (clear 4));
       rules = not_broken _ _ _ _ ((first-none _ _).0 (clear 5));
     }
+
+-- It has its header where none of the header's rows applies,
+pub header_long : (p : List ℕ) → none (header_rows p) ≡ true → header_length ≤ length p
+header_long p h = ltb-false _ _ (none_at (header_rows p) h 0)
+
+-- and where it is accepted, with its numbers inside their limits.
+pub accepted_long : (p : List ℕ) → none (program_rows p) ≡ true → header_length ≤ length p
+accepted_long p h = (none-program_rows p h).long
+
+pub accepted_atoms : (p : List ℕ) → none (program_rows p) ≡ true → atom_count p ≤ most_atoms
+accepted_atoms p h = (none-program_rows p h).inside.atoms
+
+pub accepted_size : (p : List ℕ) → none (program_rows p) ≡ true → size_of p ≤ most_b
+accepted_size p h = (none-program_rows p h).inside.size
 
 pub program_rows-none : (p : List ℕ) → Accepted p → none (program_rows p) ≡ true
 unfolding program_rows

@@ -14,6 +14,8 @@ unfolding slot_bytes
 length-slot_bytes l zero = refl
 length-slot_bytes l (suc n) = rw length-append (omega (arith, length-slot_bytes l n))
 
+pub ruleset slot_lengths = (length-slot_bytes)
+
 -- The bytes of a rule of so many counts have its length.
 pub length-counted_bytes : (packed : Bool) (h p n : ℕ) (slots : List ℕ) → length (counted_bytes packed h p n slots) ≡ rule_length packed (h + p + n)
 length-counted_bytes packed h p n slots = omega (arith, length-slot_bytes slots (slot_count packed (h + p + n)))

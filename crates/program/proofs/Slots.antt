@@ -1,18 +1,24 @@
 -- The slots of a rule, one by one: the test of them all is that of each, and a slot that was written is read as it was. By induction on their number. Assumes nothing.
-use mathlib.Core.Path.{◌≡◌, refl, sym, ◌∙◌}
+use Rattle.std.specs.List.{list_all, range_with_len}
+use Rattle.std.proofs.lemmas.List.Folds.{list_all-append}
+use Rattle.std.proofs.lemmas.List.FromFn.{map-range_with_len_more}
+use mathlib.Core.Path.{◌≡◌, refl, sym, ap, ◌∙◌}
 use mathlib.Core.Logic.{⊎_elim}
-use mathlib.Core.Bool.{true, false, and-false}
-use mathlib.Core.List.{List, ◌++◌, append_assoc}
+use mathlib.Core.Bool.{true, and-true}
+use mathlib.Core.List.{List, [], ◌∷◌, ◌++◌, map, append_assoc}
 use Prim.Native.Nat.{ℕ, zero, suc, ◌+◌, ◌*◌, ◌≤◌, ◌<◌}
-use native.Mathlib.Nat.{add-zero, eq-or-lt_of_le}
+use native.Mathlib.Nat.{add-zero, zero-add, eq-or-lt_of_le}
+use native.Mathlib.Numerals.{add-one}
 use native.Mathlib.Omega.{arith}
+use lib.Dec.{ltb}
+use borrow.Author.Tests.{lt-ltb}
 use lib.ListN.{get_or, length, take, drop, length-drop}
 use lib.Seq.{take-add, take-suc, drop-drop, get_or-drop}
 use Rattle.wire.specs.Wire.{u16_at, u16_bytes, Bytes}
 use Rattle.wire.specs.Sequence.{up_to}
 use Rattle.wire.proofs.Laws.{u16_at-append, u16_at-u16_bytes, u16_bytes-u16_at}
 use Rattle.logic.proofs.Bools.{&&_split}
-use Rattle.program.specs.Image.{slot_at, slot_keeps, slots_keep, slot_bytes}
+use Rattle.program.specs.Image.{slot_at, slots_from, slot_keeps, slots_keep, slot_bytes}
 use Rattle.program.proofs.Lengths.{length-slot_bytes}
 
 -- ---- the test
@@ -33,13 +39,21 @@ module _ (B used : ℕ) (slot : ℕ → ℕ) where
   slots_keep-each zero h = refl
   slots_keep-each (suc n) h = rw (slots_keep-each n (λ i l. h i (omega arith)), h n (omega arith))
 
-  pub slots_keep_broken : (n i : ℕ) → i < n → slot_keeps B used i (slot i) ≡ false → slots_keep B used slot n ≡ false
+  -- Of slots that are all used, each holds an atom below B.
+  pub slots_keep_list : (n : ℕ) → n ≤ used → list_all (λ a. ltb a B) (map slot (range_with_len 0 n)) ≡ slots_keep B used slot n
   unfolding slots_keep
-  slots_keep_broken zero i l t = absurd (omega arith)
-  slots_keep_broken (suc n) i l t = ⊎_elim
-      (λ (e : suc i ≡ suc n). let m : i ≡ n = omega arith in rw (rw m at t) (and-false (slots_keep B used slot n)))
-      (λ (m : suc i < suc n). rw (slots_keep_broken n i (omega arith) t))
-      (eq-or-lt_of_le l)
+  slots_keep_list zero l = refl
+  slots_keep_list (suc n) l =
+      ap (list_all (λ a. ltb a B)) (rw add-one at (map-range_with_len_more slot 0 n n (zero-add n)))
+      ∙ list_all-append (λ a. ltb a B) (map slot (range_with_len 0 n)) (slot n ∷ [])
+      ∙ rw (slots_keep_list n (omega arith), lt-ltb n used l, and-true (ltb (slot n) B))
+
+-- The slots from one on, one by one.
+pub slots-list : (s : List ℕ) (start n : ℕ) → map (slot_at s) (range_with_len start n) ≡ slots_from s start n
+unfolding up_to
+slots-list s start zero = refl
+slots-list s start (suc n) =
+    rw (add-one n) at (map-range_with_len_more (slot_at s) start n (start + n) refl) ∙ ap (λ l. l ++ (slot_at s (start + n) ∷ [])) (slots-list s start n)
 
 -- ---- the bytes
 

@@ -46,6 +46,10 @@ rules_row packed B K s = first_such 26 (broken_at packed B K s) (K + 1)
 abbrev pub row26 : List ℕ → Row
 row26 p = rules_row (is_packed p) (size_of p) (rule_count p) (rule_section p)
 
+-- The rows about the header alone.
+abbrev pub header_rows : List ℕ → List Row
+header_rows p = row21 p ∷ row22 p ∷ row23 p ∷ row24 p ∷ row25 p ∷ []
+
 -- The rows of a program image, in the order tested.
 unfoldable pub program_rows : List ℕ → List Row
 program_rows p = row21 p ∷ row22 p ∷ row23 p ∷ row24 p ∷ row25 p ∷ row26 p ∷ []

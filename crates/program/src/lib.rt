@@ -1,7 +1,7 @@
 //! The program image in its two forms: flat rules as bytes.
 #![tactic(auto)]
 
-ghost use Rattle.std.specs.Prelude.{◌≡◌, true, false, cond, ◌&&◌, List, [], ◌∷◌, ℕ, ◌+◌, ◌-◌, ◌*◌, ◌≤◌, ◌<◌, ◌↔◌, IfOk, IsTrue, leb, ltb, length};
+ghost use Rattle.std.specs.Prelude.{◌≡◌, true, false, cond, ◌&&◌, List, [], ◌∷◌, ℕ, ◌+◌, ◌-◌, ◌*◌, ◌≤◌, ◌<◌, ◌↔◌, IfOk, IsTrue, leb, ltb, length, drop};
 ghost use Rattle.refusal.specs.Limits.{most_atoms, most_b, most_rules};
 ghost use Rattle.refusal.specs.Table.{none};
 ghost use Rattle.refusal.specs.Refusal.{Decides};
@@ -10,10 +10,10 @@ ghost use Rattle.logic.specs.Value.{number, negation};
 ghost use Rattle.logic.specs.Formula.{reading_of, value_of};
 ghost use Rattle.program.specs.Rule.{smallest, largest, holds};
 ghost use Rattle.program.specs.Program.{satisfies_program};
-ghost use Rattle.program.specs.Image.{atom_count, size_of, rule_count, most_literals, slot_count, rule_length, used_at, slot_at, slots_from, rule_at, program_of};
+ghost use Rattle.program.specs.Image.{atom_count, size_of, rule_count, most_literals, slot_count, rule_length, used_at, slot_at, slots_from, rule_at, length_at, program_of};
 ghost use Rattle.program.specs.Image.{slot_keeps, slots_keep, rule_keeps, slot_bytes, image_length, header};
 ghost use Rattle.program.specs.Literals.{Named, literal_value, slot_put, Slotted, slotted_used, slotted_bytes};
-ghost use Rattle.program.specs.Rows.{outside, total_keeps, rules_row, program_rows};
+ghost use Rattle.program.specs.Rows.{outside, total_keeps, header_rows, rules_row, program_rows};
 
 use logic::Value;
 use refusal::Refusal;
@@ -52,6 +52,7 @@ pub fn image_length(packed: bool, rules: usize, literals: usize) -> usize
 }
 
 // The header of an image of `rules` rules, with its total length.
+#[tactic(auto, unfolding(crate::specs::Image::header))]
 pub fn header_bytes(packed: bool, atoms: usize, size: usize, rules: usize, total: usize) -> [u8; 16]
     ensures { result ≡ header packed atoms size rules total }
 {
@@ -92,6 +93,7 @@ impl Rule {
     }
 
     // Writes it over the start of `out`, and gives how many bytes it has.
+    #[tactic(auto, using(crate::proofs::Lengths::slot_lengths))]
     pub fn put(&self, out: &mut [u8], packed: bool) -> usize
         requires { length (slotted_bytes packed self.now) ≤ length out.old }
         ensures value { result ≡ length (slotted_bytes packed self.now) }
@@ -131,16 +133,28 @@ pub struct Program<'a> {
 }
 
 // Rows 21 to 26, in this order.
+#[tactic(auto, using(crate::proofs::Accepted::header_long))]
 pub fn check(image: &[u8]) -> Result<Program<'_>, Refusal>
     ensures decided { Decides (program_rows image.now) result }
     ensures same { IfOk result (λ program. program.image.now ≡ image.now) }
 {
+    check_header(image)?;
+    let size = wire::u16_at(image, 2);
+    let count = wire::u16_at(image, 4);
+    let form = wire::u16_at(image, 6);
+    check_rules(&image[HEADER_LENGTH..], form == 1, count, size)?;
+    Ok(Program { image })
+}
+
+// Rows 21 to 25, about the header.
+fn check_header(image: &[u8]) -> Result<(), Refusal>
+    ensures { Decides (header_rows image.now) result }
+{
     if image.len() < HEADER_LENGTH {
         return Err(Refusal::ProgramHeader);
     }
-    let size = wire::u16_at(image, 2);
     let count = wire::u16_at(image, 4);
-    if is_outside(wire::u16_at(image, 0), size, count) {
+    if is_outside(wire::u16_at(image, 0), wire::u16_at(image, 2), count) {
         return Err(Refusal::ProgramLimits);
     }
     let form = wire::u16_at(image, 6);
@@ -154,8 +168,7 @@ pub fn check(image: &[u8]) -> Result<Program<'_>, Refusal>
     if image.len() != total {
         return Err(Refusal::ProgramLength { wanted: total });
     }
-    check_rules(&image[HEADER_LENGTH..], form == 1, count, size)?;
-    Ok(Program { image })
+    Ok(())
 }
 
 // Whether A, B or K is outside its limits.
@@ -188,7 +201,7 @@ fn check_rules(rules: &[u8], packed: bool, count: usize, size: usize) -> Result<
         if !keeps(rest, packed, size) {
             return Err(Refusal::Rule { index });
         }
-        rest = &rest[rule_length(packed, used_at(rest))..];
+        rest = behind_first(rest, packed);
     }
     if 0 < rest.len() {
         return Err(Refusal::Rule { index: count });
@@ -217,6 +230,14 @@ fn used_at(rule: &[u8]) -> usize
     usize::from(rule[0]) + usize::from(rule[1]) + usize::from(rule[2])
 }
 
+// What is left behind the rule at the start of a slice.
+fn behind_first(rules: &[u8], packed: bool) -> &[u8]
+    requires { length_at packed rules.now ≤ length rules.now }
+    ensures { result.now ≡ drop (length_at packed rules.now) rules.now }
+{
+    &rules[rule_length(packed, used_at(rules))..]
+}
+
 // What stands in slot i of the rule at the start of a slice.
 fn slot_at(rule: &[u8], i: usize) -> usize
     requires { 6 + i * 2 ≤ length rule.now }
@@ -226,6 +247,7 @@ fn slot_at(rule: &[u8], i: usize) -> usize
 }
 
 // Whether each slot of a rule of `used` literals keeps its part.
+#[tactic(auto, unfolding(crate::specs::Image::slots_keep))]
 fn slots_keep(rule: &[u8], packed: bool, used: usize, size: usize) -> bool
     requires { (used < 65536) × (rule_length packed used ≤ length rule.now) }
     ensures { result ≡ slots_keep size used (slot_at rule.now) (slot_count packed used) }
@@ -262,12 +284,14 @@ fn slot_bound(i: usize, used: usize, size: usize) -> usize
 
 impl<'a> Program<'a> {
     // A and B.
+    #[tactic(auto, using(crate::proofs::Accepted::accepted_long, crate::proofs::Accepted::accepted_atoms))]
     pub fn atoms(&self) -> usize
         ensures { (result ≡ atom_count self.now.image.now) × (result ≤ most_atoms) }
     {
         wire::u16_at(self.image, 0)
     }
 
+    #[tactic(auto, using(crate::proofs::Accepted::accepted_long, crate::proofs::Accepted::accepted_size))]
     pub fn size(&self) -> usize
         ensures { (result ≡ size_of self.now.image.now) × (result ≤ most_b) }
     {
@@ -275,6 +299,7 @@ impl<'a> Program<'a> {
     }
 
     // Whether a reading of B values satisfies every rule.
+    #[tactic(auto, using(crate::proofs::Accepted::accepted_long))]
     pub fn satisfied(&self, reading: &[u8]) -> bool
         requires { length reading.now ≡ size_of self.now.image.now }
         ensures { result ≡ satisfies_program (reading_of reading.now) (program_of self.now.image.now) }
@@ -285,7 +310,7 @@ impl<'a> Program<'a> {
             if !rule_holds(rest, reading) {
                 return false;
             }
-            rest = &rest[rule_length(packed, used_at(rest))..];
+            rest = behind_first(rest, packed);
         }
         true
     }
@@ -308,6 +333,7 @@ fn rule_holds(rule: &[u8], reading: &[u8]) -> bool
 }
 
 // The largest value of the first `count` slots.
+#[tactic(auto, using(crate::proofs::Literals::largest_none, crate::proofs::Literals::largest_more))]
 fn largest_head(rule: &[u8], count: usize, reading: &[u8]) -> Value
     requires { Named rule.now (length reading.now) × (count ≤ used_at rule.now) }
     ensures { result ≡ largest (value_of (reading_of reading.now)) (slots_from rule.now 0 count) }
