@@ -1,8 +1,10 @@
 -- Literals that are added one by one leave what simplifying the whole rule leaves: by induction on their number. Assumes nothing.
+use Rattle.std.proofs.Common.{Option, Some, None}
 use mathlib.Core.Path.{◌≡◌, refl, sym, ap, ◌∙◌}
-use mathlib.Core.Bool.{Bool, true, false, not, ◌||◌, or-true, or-false, or_assoc}
+use mathlib.Core.Bool.{Bool, true, false, ◌||◌, cond, or-true, or-false, or_assoc}
 use mathlib.Core.List.{List, [], ◌∷◌, ◌++◌, map, append_assoc, append-nil}
 use Prim.Native.Nat.{ℕ, zero, suc, ◌+◌, ◌-◌, ◌≤◌, ◌<◌}
+use native.Mathlib.Decide.{le_ind}
 use native.Mathlib.Numerals.{add-one}
 use native.Mathlib.Omega.{arith}
 use lib.Dec.{eqb}
@@ -12,13 +14,13 @@ use Rattle.refusal.proofs.Table.{cases}
 use Rattle.wire.specs.Sequence.{up_to}
 use Rattle.wire.proofs.Sequence.{length-up_to, map-up_to, up_to_equal}
 use Rattle.program.specs.Rule.{RuleOf}
+use Rattle.program.specs.Literals.{Slotted}
 use Rattle.program.specs.Image.{slot_count, literals, literal_total, slot_bytes, rule_bytes, rules_bytes}
 use Rattle.program.proofs.Lengths.{literals_counted}
 use Rattle.flat.specs.Flat.{Term, constant, name, has, names, removes, reduce, simplify, fact}
 use Rattle.table.specs.declared.Literals.{Literals}
-use Rattle.table.specs.declared.Made.{Made}
 use Rattle.table.specs.Shapes.{slot_of, slot_number, slots_from, used_by, Fillable}
-use Rattle.table.specs.OneRule.{false_term, true_term, code, decode, filled, rule_in, added, added_to, first_three, made_of, made_used, Few, made_count, made_literals, made_bytes}
+use Rattle.table.specs.OneRule.{false_term, true_term, code, decode, filled, rule_in, added, added_if, added_to, first_three, made_of, made_count, made_literals, made_bytes}
 
 -- ---- the terms of numbers
 
@@ -62,18 +64,13 @@ length-names (name a ∷ ts) = omega (arith, length-names ts)
 
 -- ---- literals
 
--- One literal more, which takes one slot at most.
-pub added_to_more : (l : Literals) (removing : ℕ) (f : ℕ → ℕ) (n : ℕ) → added_to l removing f (n + 1) ≡ added (added_to l removing f n) removing (f n)
-unfolding added_to
-added_to_more l removing f n = rw add-one
+-- The literals l of a rule,
+abbrev pub kept : List ℕ → Literals
+kept l = record { used = length l; slots = first_three l }
 
-pub used-added : (l : Literals) (removing term : ℕ) → (added l removing term).used ≤ l.used + 1
-used-added l removing term = cases (eqb term removing) (λ t. rw t (omega arith))
-    (λ f. rw f (cases (eqb term false_term) (λ t. rw t (omega arith)) (λ g. rw g (cases (eqb term true_term) (λ t. rw t (omega arith)) (λ h. rw h (omega arith))))))
-
--- The literals l of a rule, and whether it is removed.
-abbrev pub state : (removed : Bool) → List ℕ → Literals
-state b l = record { kept = not b; used = length l; slots = first_three l }
+-- if it stays.
+abbrev pub state : (removed : Bool) → List ℕ → Option Literals
+state b l = cond b None (Some (kept l))
 
 -- A name takes the next slot.
 pushed : (l : List ℕ) (a : ℕ) → length l < 3 → set (first_three l) (length l) a ≡ first_three (l ++ (a ∷ []))
@@ -83,34 +80,45 @@ pushed (b ∷ c ∷ []) a h = refl
 pushed (b ∷ c ∷ d ∷ l) a h = absurd (omega arith)
 
 added_state : (b c : Bool) (l : List ℕ) (n : ℕ) → length l < 3
-    → added (state b l) (code (constant c)) n ≡ state (b || has c (decode n ∷ [])) (l ++ names (decode n ∷ []))
-added_state b c l n h = cases (eqb n false_term)
+    → added_if (state b l) (code (constant c)) n ≡ state (b || has c (decode n ∷ [])) (l ++ names (decode n ∷ []))
+added_state true c l n h = refl
+added_state false c l n h = cases (eqb n false_term)
     (λ t. rw (eqb-true n false_term t) (low c))
     (λ f. cases (eqb n true_term) (λ t. rw (eqb-true n true_term t) (high c)) (other c f))
   where
-    low : (c : Bool) → added (state b l) (code (constant c)) false_term ≡ state (b || has c (constant false ∷ [])) (l ++ [])
-    low true = rw (or-false, append-nil)
-    low false = rw (or-true, append-nil)
+    low : (c : Bool) → added_if (state false l) (code (constant c)) false_term ≡ state (has c (constant false ∷ [])) (l ++ [])
+    low true = rw append-nil
+    low false = refl
 
-    high : (c : Bool) → added (state b l) (code (constant c)) true_term ≡ state (b || has c (constant true ∷ [])) (l ++ [])
-    high true = rw (or-true, append-nil)
-    high false = rw (or-false, append-nil)
+    high : (c : Bool) → added_if (state false l) (code (constant c)) true_term ≡ state (has c (constant true ∷ [])) (l ++ [])
+    high true = refl
+    high false = rw append-nil
 
-    other : (c : Bool) → eqb n false_term ≡ false → eqb n true_term ≡ false → added (state b l) (code (constant c)) n
-        ≡ state (b || has c (decode n ∷ [])) (l ++ names (decode n ∷ []))
-    other true f g = rw (f, g, or-false, pushed l n h, length-append)
-    other false f g = rw (f, g, or-false, pushed l n h, length-append)
+    other : (c : Bool) → eqb n false_term ≡ false → eqb n true_term ≡ false → added_if (state false l) (code (constant c)) n
+        ≡ state (has c (decode n ∷ [])) (l ++ names (decode n ∷ []))
+    other true f g = rw (f, g, pushed l n h, length-append)
+    other false f g = rw (f, g, pushed l n h, length-append)
 
-pub added_to_state : (b c : Bool) (l : List ℕ) (f : ℕ → ℕ) (n : ℕ) → length l + n ≤ 3
-    → added_to (state b l) (code (constant c)) f n ≡ state (b || has c (up_to (λ j. decode (f j)) n)) (l ++ names (up_to (λ j. decode (f j)) n))
+pub added_to_state : (c : Bool) (l : List ℕ) (f : ℕ → ℕ) (n : ℕ) → length l + n ≤ 3
+    → added_to (kept l) (code (constant c)) f n ≡ state (has c (up_to (λ j. decode (f j)) n)) (l ++ names (up_to (λ j. decode (f j)) n))
 unfolding added_to up_to
-added_to_state b c l f zero h = rw (or-false, append-nil)
-added_to_state b c l f (suc n) h =
+added_to_state c l f zero h = rw append-nil
+added_to_state c l f (suc n) h =
     let ts : List Term = up_to (λ j. decode (f j)) n in
     let few : length (names ts) ≤ n = omega (arith, length-names ts, length-up_to (λ j. decode (f j)) n) in
-    rw (added_to_state b c l f n (omega arith))
-    (added_state (b || has c ts) c (l ++ names ts) (f n) (rw length-append (omega arith))
-    ∙ rw (has-append, names-append, or_assoc, append_assoc))
+    rw (added_to_state c l f n (omega arith))
+    (added_state (has c ts) c (l ++ names ts) (f n) (rw length-append (omega arith))
+    ∙ rw (has-append, names-append, append_assoc))
+
+-- One literal more, which takes one slot at most,
+pub added_to_more : (l : Literals) (removing : ℕ) (f : ℕ → ℕ) (n : ℕ) → added_to l removing f (n + 1) ≡ added_if (added_to l removing f n) removing (f n)
+unfolding added_to
+added_to_more l removing f n = rw add-one
+
+-- and where a rule is removed already, none is added.
+pub added_to-none : (l : Literals) (removing : ℕ) (f : ℕ → ℕ) (k n : ℕ) → k ≤ n → added_to l removing f k ≡ None → added_to l removing f n ≡ None
+added_to-none l removing f k n h e =
+    le_ind (λ m. added_to l removing f m ≡ None) e (λ m g d. rw (← add-one, added_to_more, d)) n h
 
 -- ---- the whole rule
 
@@ -133,57 +141,22 @@ module _ (s terms : List ℕ) (ok : Fillable s) where
       ∙ up_to_equal _ _ count (λ j l. ap (λ n. decode (get_or terms n 0)) (slot_number-slot_of (get_or s (start + j) 0) (slot_named s ok (start + j) (omega (arith, h)))))
 
   -- The heads, then the positives, then the negatives.
-  part : (b c : Bool) (l : List ℕ) (start count : ℕ) → (3 ≤ start) × (start + count ≤ 3 + used_by s) → length l + count ≤ 3
-      → added_to (state b l) (code (constant c)) (slot_term s terms start) count
-      ≡ state (b || has c (map (filled terms) (slots_from s start count))) (l ++ names (map (filled terms) (slots_from s start count)))
-  part b c l start count h k = rw (slots_filled start count h) (added_to_state b c l (slot_term s terms start) count k)
+  part : (c : Bool) (l : List ℕ) (start count : ℕ) → (3 ≤ start) × (start + count ≤ 3 + used_by s) → length l + count ≤ 3
+      → added_to (kept l) (code (constant c)) (slot_term s terms start) count
+      ≡ state (has c (map (filled terms) (slots_from s start count))) (l ++ names (map (filled terms) (slots_from s start count)))
+  part c l start count h k = rw (slots_filled start count h) (added_to_state c l (slot_term s terms start) count k)
 
   few-names : (start count : ℕ) → length (names (map (filled terms) (slots_from s start count))) ≤ count
   few-names start count =
       let ts : List Term = map (filled terms) (slots_from s start count) in
       omega (arith, length-names ts, length-map (slots_from s start count) (filled terms), length-up_to (λ j. slot_of (get_or s (start + j) 0)) count)
 
-  pub heads-few : length (names (rule_in s terms).heads) ≤ get_or s 0 0
-  heads-few = few-names 3 (get_or s 0 0)
-
-  pub positives-few : length (names (rule_in s terms).positives) ≤ get_or s 1 0
-  positives-few = few-names (3 + get_or s 0 0) (get_or s 1 0)
-
-  pub heads-added : added_to (state false []) true_term (slot_term s terms 3) (get_or s 0 0) ≡ state (has true (rule_in s terms).heads) (names (rule_in s terms).heads)
-  heads-added = part false true [] 3 (get_or s 0 0) (omega arith) (omega arith)
-
-  pub positives-added : added_to (state (has true (rule_in s terms).heads) (names (rule_in s terms).heads)) false_term (slot_term s terms (3 + get_or s 0 0)) (get_or s 1 0)
-      ≡ state (has true (rule_in s terms).heads || has false (rule_in s terms).positives) (names (rule_in s terms).heads ++ names (rule_in s terms).positives)
-  positives-added = part (has true (rule_in s terms).heads) false (names (rule_in s terms).heads) (3 + get_or s 0 0) (get_or s 1 0) (omega arith) (omega (arith, heads-few))
-
-  pub negatives-added : added_to (state (has true (rule_in s terms).heads || has false (rule_in s terms).positives) (names (rule_in s terms).heads ++ names (rule_in s terms).positives)) true_term
-      (slot_term s terms (3 + get_or s 0 0 + get_or s 1 0)) (get_or s 2 0)
-      ≡ state (removes (rule_in s terms)) (names (rule_in s terms).heads ++ names (rule_in s terms).positives ++ names (rule_in s terms).negatives)
-  negatives-added =
-      part (has true (rule_in s terms).heads || has false (rule_in s terms).positives) true (names (rule_in s terms).heads ++ names (rule_in s terms).positives) (3 + get_or s 0 0 + get_or s 1 0) (get_or s 2 0)
-      (omega arith) (rw length-append (omega (arith, heads-few, positives-few)))
-
--- What the three parts of a rule leave is the rule with its constants gone.
-abbrev finish : (a b c : Literals) → Made
-finish a b c = record { kept = c.kept; heads = a.used; positives = b.used - a.used; negatives = c.used - b.used; slots = c.slots }
-
-pub finish_parts : (r : RuleOf Term) → let h = names r.heads in let p = names r.positives in let n = names r.negatives in
-    finish (state false h) (state false (h ++ p)) (state (removes r) (h ++ p ++ n)) ≡ made_of r
-unfolding made_of
-finish_parts r =
-    let h = names r.heads in
-    let p = names r.positives in
-    let n = names r.negatives in
-    let e : length (h ++ p) - length h ≡ length p = rw length-append (omega arith) in
-    let f : length (h ++ p ++ n) - length (h ++ p) ≡ length n = rw length-append (omega arith) in
-    rw (e, f, append_assoc)
-
 -- A rule that was made has no more literals than it had: three at most where a row is filled,
-made_le : (r : RuleOf Term) → made_used (made_of r) ≤ length r.heads + length r.positives + length r.negatives
+made_le : (r : RuleOf Term) → made_literals (made_of r) ≤ length r.heads + length r.positives + length r.negatives
 unfolding made_of
-made_le r = omega (arith, length-names r.heads, length-names r.positives, length-names r.negatives)
+made_le r = cases (removes r) (λ t. rw t (omega arith)) (λ f. rw f (omega (arith, length-names r.heads, length-names r.positives, length-names r.negatives)))
 
-pub rule_in-few : (s terms : List ℕ) → Fillable s → Few (made_of (rule_in s terms))
+pub rule_in-few : (s terms : List ℕ) → Fillable s → made_literals (made_of (rule_in s terms)) ≤ 3
 rule_in-few s terms ok =
     omega (arith, made_le (rule_in s terms), count 3 (get_or s 0 0), count (3 + get_or s 0 0) (get_or s 1 0), count (3 + get_or s 0 0 + get_or s 1 0) (get_or s 2 0), ok.few)
   where
@@ -191,14 +164,8 @@ rule_in-few s terms ok =
     count start n = length-map (slots_from s start n) (filled terms) ∙ length-up_to (λ j. slot_of (get_or s (start + j) 0)) n
 
 -- and one of a fact.
-pub fact-few : (t : Term) → Few (made_of (fact t))
+pub fact-few : (t : Term) → made_literals (made_of (fact t)) ≤ 3
 fact-few t = omega (arith, made_le (fact t))
-
--- A fact is its one head.
-pub fact_made : (n : ℕ) → let l = added (state false []) true_term n in
-    record { kept = l.kept; heads = l.used; positives = 0; negatives = 0; slots = l.slots } ≡ made_of (fact (decode n))
-unfolding made_of
-fact_made n = rw (added_state false true [] n (omega arith)) (simp (or-false, append-nil))
 
 -- ---- what stays of it
 
@@ -223,7 +190,7 @@ slot_count-few : (packed : Bool) (n : ℕ) → n ≤ 3 → slot_count packed n �
 slot_count-few true n h = h
 slot_count-few false n h = omega arith
 
-pub made_bytes-made_of : (packed : Bool) (r : RuleOf Term) → Few (made_of r) → made_bytes packed (made_of r) ≡ rules_bytes packed (simplify r)
+pub made_bytes-made_of : (packed : Bool) (r : RuleOf Term) → made_literals (made_of r) ≤ 3 → made_bytes packed (made_of r) ≡ rules_bytes packed (simplify r)
 unfolding made_of rules_bytes rule_bytes
 made_bytes-made_of packed r few = cases (removes r) (λ t. rw t)
-    (λ f. rw (f, slot_bytes-first_three (literals (reduce r)) _ (slot_count-few packed _ few)) (sym (append-nil _)))
+    (λ f. rw (f, slot_bytes-first_three (literals (reduce r)) _ (slot_count-few packed _ (rw f at few))) (sym (append-nil _)))

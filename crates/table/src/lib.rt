@@ -147,8 +147,8 @@ impl Literals {
         ensures { result ≡ added_to self removing (λ j. get_or terms.now.numbers (get_or shape.now (start + j) 0) 0) count }
     {
         let mut all = self;
-        for j in start..start + count {
-            all = all.add(removing, terms.numbers[usize::from(shape[j])])?;
+        for j in 0..count {
+            all = all.add(removing, terms.numbers[usize::from(shape[start + j])])?;
         }
         Some(all)
     }
