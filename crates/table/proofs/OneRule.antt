@@ -20,7 +20,7 @@ use Rattle.program.proofs.Lengths.{literals_counted}
 use Rattle.flat.specs.Flat.{Term, constant, name, has, names, removes, reduce, simplify, fact}
 use Rattle.table.specs.declared.Literals.{Literals}
 use Rattle.table.specs.Shapes.{slot_of, slot_number, slots_from, used_by, Fillable}
-use Rattle.table.specs.OneRule.{false_term, true_term, code, decode, filled, rule_in, added, added_if, added_to, first_three, made_of, made_count, made_literals, made_bytes}
+use Rattle.table.specs.OneRule.{false_term, true_term, code, decode, filled, rule_in, added, added_if, added_to, first_three, no_literals, made_of, made_count, made_literals, made_bytes}
 
 -- ---- the terms of numbers
 
@@ -122,9 +122,88 @@ added_to-none l removing f k n h e =
 
 -- ---- the whole rule
 
--- The number of the term that fills a slot.
-abbrev slot_term : (s terms : List ℕ) (start j : ℕ) → ℕ
-slot_term s terms start j = get_or terms (get_or s (start + j) 0) 0
+-- What was added says whether the rule stays, and with which literals.
+stayed : (b : Bool) (l : List ℕ) (a : Literals) → Some a ≡ state b l → (b ≡ false) × (a ≡ kept l)
+stayed true l a e = cc
+stayed false l a e = (refl, cc)
+
+gone : (b : Bool) (l : List ℕ) → None ≡ state b l → b ≡ true
+gone true l e = refl
+gone false l e = cc
+
+-- Terms f as heads, then g as positives, then h as negatives.
+module _ (f g h : ℕ → ℕ) (H P N : ℕ) (few : H + P + N ≤ 3) where
+  abbrev terms : (ℕ → ℕ) → (n : ℕ) → List Term
+  terms f n = up_to (λ j. decode (f j)) n
+
+  few-names : (f : ℕ → ℕ) (n : ℕ) → length (names (terms f n)) ≤ n
+  few-names f n = omega (arith, length-names (terms f n), length-up_to (λ j. decode (f j)) n)
+
+  abbrev pub rule : RuleOf Term
+  rule = record { heads = terms f H; positives = terms g P; negatives = terms h N }
+
+  -- The literals a after the heads, b after the positives and d after the negatives.
+  abbrev pub Heads : Option Literals → Type 0
+  Heads a = a ≡ added_to no_literals true_term f H
+
+  abbrev pub Positives : Literals → Option Literals → Type 0
+  Positives a b = b ≡ added_to a false_term g P
+
+  abbrev pub Negatives : Literals → Option Literals → Type 0
+  Negatives b d = d ≡ added_to b true_term h N
+
+  heads-are : (a : Option Literals) → Heads a → a ≡ state (has true rule.heads) (names rule.heads)
+  heads-are a e = e ∙ added_to_state true [] f H (omega arith)
+
+  positives-are : (a : Literals) (b : Option Literals) → Heads (Some a) → Positives a b → b ≡ state (has false rule.positives) (names rule.heads ++ names rule.positives)
+  positives-are a b e k =
+      k ∙ rw (stayed _ _ a (heads-are _ e)).1 (added_to_state false (names rule.heads) g P (omega (arith, few-names f H)))
+
+  negatives-are : (a b : Literals) (d : Option Literals) → Heads (Some a) → Positives a (Some b) → Negatives b d
+      → d ≡ state (has true rule.negatives) ((names rule.heads ++ names rule.positives) ++ names rule.negatives)
+  negatives-are a b d e k m =
+      m ∙ rw (stayed _ _ b (positives-are a _ e k)).1
+      (added_to_state true (names rule.heads ++ names rule.positives) h N (rw length-append (omega (arith, few-names f H, few-names g P))))
+
+  -- Each may remove the rule,
+  pub heads-remove : Heads None → None ≡ made_of rule
+  unfolding made_of
+  heads-remove e = rw (gone _ _ (heads-are _ e))
+
+  pub positives-remove : (a : Literals) → Heads (Some a) → Positives a None → None ≡ made_of rule
+  unfolding made_of
+  positives-remove a e k = rw (gone _ _ (positives-are a _ e k), or-true)
+
+  pub negatives-remove : (a b : Literals) → Heads (Some a) → Positives a (Some b) → Negatives b None → None ≡ made_of rule
+  unfolding made_of
+  negatives-remove a b e k m = rw (gone _ _ (negatives-are a b _ e k m), or-true)
+
+  -- and where none does, what they leave is the rule with its constants gone.
+  pub parts-made : (a b d : Literals) → Heads (Some a) → Positives a (Some b) → Negatives b (Some d)
+      → Some (record { heads = a.used; positives = b.used - a.used; negatives = d.used - b.used; slots = d.slots }) ≡ made_of rule
+  unfolding made_of
+  parts-made a b d e k m =
+      let x = stayed _ _ a (heads-are _ e) in
+      let y = stayed _ _ b (positives-are a _ e k) in
+      let z = stayed _ _ d (negatives-are a b _ e k m) in
+      let p : length (names rule.heads ++ names rule.positives) - length (names rule.heads) ≡ length (names rule.positives) = rw length-append (omega arith) in
+      let n : length ((names rule.heads ++ names rule.positives) ++ names rule.negatives) - length (names rule.heads ++ names rule.positives) ≡ length (names rule.negatives) =
+          omega (arith, length-append (names rule.heads ++ names rule.positives) (names rule.negatives))
+      in
+      rw (x.0, y.0, z.0, x.1, y.1, z.1, p, n, append_assoc)
+
+-- A fact is its one head.
+module _ (n : ℕ) where
+  pub fact_removed : None ≡ added no_literals true_term n → None ≡ made_of (fact (decode n))
+  unfolding added_to up_to
+  fact_removed e = heads-remove (λ j. n) (λ j. n) (λ j. n) 1 0 0 (omega arith) e
+
+  pub fact_made : (a : Literals) → Some a ≡ added no_literals true_term n
+      → Some (record { heads = a.used; positives = 0; negatives = 0; slots = a.slots }) ≡ made_of (fact (decode n))
+  unfolding added_to up_to
+  fact_made a e =
+      let zero : a.used - a.used ≡ 0 = omega arith in
+      rw zero at (parts-made (λ j. n) (λ j. n) (λ j. n) 1 0 0 (omega arith) a a a e refl refl)
 
 -- A slot that is used names x, y, L or M.
 pub slot_named : (s : List ℕ) → Fillable s → (i : ℕ) → (3 ≤ i) × (i < 3 + used_by s) → get_or s i 0 < 4
@@ -132,24 +211,6 @@ slot_named s ok i h =
     let j : ℕ = i - 3 in
     let e : 3 + j ≡ i = omega (arith, h) in
     ltb-true _ _ (rw e at (ok.slots j (omega (arith, h, ok.few)) ∙ lt-ltb j (used_by s) (omega (arith, h))))
-
-module _ (s terms : List ℕ) (ok : Fillable s) where
-  slots_filled : (start count : ℕ) → (3 ≤ start) × (start + count ≤ 3 + used_by s)
-      → map (filled terms) (slots_from s start count) ≡ up_to (λ j. decode (get_or terms (get_or s (start + j) 0) 0)) count
-  slots_filled start count h =
-      map-up_to (filled terms) (λ j. slot_of (get_or s (start + j) 0)) count
-      ∙ up_to_equal _ _ count (λ j l. ap (λ n. decode (get_or terms n 0)) (slot_number-slot_of (get_or s (start + j) 0) (slot_named s ok (start + j) (omega (arith, h)))))
-
-  -- The heads, then the positives, then the negatives.
-  part : (c : Bool) (l : List ℕ) (start count : ℕ) → (3 ≤ start) × (start + count ≤ 3 + used_by s) → length l + count ≤ 3
-      → added_to (kept l) (code (constant c)) (slot_term s terms start) count
-      ≡ state (has c (map (filled terms) (slots_from s start count))) (l ++ names (map (filled terms) (slots_from s start count)))
-  part c l start count h k = rw (slots_filled start count h) (added_to_state c l (slot_term s terms start) count k)
-
-  few-names : (start count : ℕ) → length (names (map (filled terms) (slots_from s start count))) ≤ count
-  few-names start count =
-      let ts : List Term = map (filled terms) (slots_from s start count) in
-      omega (arith, length-names ts, length-map (slots_from s start count) (filled terms), length-up_to (λ j. slot_of (get_or s (start + j) 0)) count)
 
 -- A rule that was made has no more literals than it had: three at most where a row is filled,
 made_le : (r : RuleOf Term) → made_literals (made_of r) ≤ length r.heads + length r.positives + length r.negatives

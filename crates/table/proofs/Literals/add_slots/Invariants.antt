@@ -6,5 +6,5 @@ use Rattle.table.proofs.Literals.add_slots.Given as goal
 abbrev pub invariant-loop-j : goal.invariant-loop-j
 invariant-loop-j l = record {
   passed : Some l.all ≡ added_to l.initial.all l.removing (λ i. get_or l.terms.numbers (get_or l.shape (l.start + i) 0) 0) l.j;
-  few : l.all.used ≤ l.initial.all.used + l.j;
+  used : (l.initial.all.used ≤ l.all.used) × (l.all.used ≤ l.initial.all.used + l.j);
 }
