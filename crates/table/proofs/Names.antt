@@ -1,4 +1,5 @@
 -- Where no slot holds a constant every row's rule stays with all its literals: by induction on the slots and on the rows. Assumes nothing.
+use Rattle.std.proofs.Common.{Some}
 use mathlib.Core.Path.{◌≡◌, refl, sym, ap, ◌∙◌}
 use mathlib.Core.Bool.{Bool, true, false, ◌&&◌, cond}
 use mathlib.Core.List.{List, [], ◌∷◌, ◌++◌, map, append_assoc}
@@ -17,7 +18,7 @@ use Rattle.program.proofs.Lengths.{literals_counted}
 use Rattle.flat.specs.Table.{Slot, x, y, L, M}
 use Rattle.flat.specs.Flat.{name, has, names, map_rule, removes, reduce, simplify}
 use Rattle.table.specs.Shapes.{row_literals, slot_of, slot_number, slots_from, used_by, shape_rule, Fillable}
-use Rattle.table.specs.OneRule.{false_term, true_term, decode, filled, rule_in, all_names, Ended, made_of}
+use Rattle.table.specs.OneRule.{false_term, true_term, decode, filled, rule_in, all_names, made_of}
 use Rattle.table.proofs.OneRule.{slot_number-slot_of, slot_named}
 
 -- A number below the constants' is a name's.
@@ -96,13 +97,13 @@ module _ (terms : List ℕ) (all : all_names terms ≡ true) where
     literals-names = rw (up_to-append number (H + P) N, up_to-append number H P, append_assoc)
 
     -- An unused slot holds 0.
-    number-used : Ended terms → (j : ℕ) → j < 3 → cond (ltb j (H + P + N)) (number j) 0 ≡ number j
+    number-used : get_or terms 4 0 ≡ 0 → (j : ℕ) → j < 3 → cond (ltb j (H + P + N)) (number j) 0 ≡ number j
     number-used ended j l = cases (ltb j (H + P + N))
         (λ t. rw t)
         (λ t. let four : get_or s (3 + j) 0 ≡ 4 = omega (arith, ltb-false (get_or s (3 + j) 0) 4 (ok.slots j l ∙ t), ok.named (3 + j) (omega arith)) in rw (t, four) (sym ended))
 
     -- The rule that is made has all literals of the shape.
-    pub made_names : Ended terms → record { kept = true; heads = H; positives = P; negatives = N; slots = number 0 ∷ number 1 ∷ number 2 ∷ [] } ≡ made_of (rule_in s terms)
+    pub made_names : get_or terms 4 0 ≡ 0 → Some (record { heads = H; positives = P; negatives = N; slots = number 0 ∷ number 1 ∷ number 2 ∷ [] }) ≡ made_of (rule_in s terms)
     unfolding made_of
     made_names ended =
         rw (

@@ -50,7 +50,7 @@ added l removing term =
     cond (eqb term removing) None (Some (cond (eqb term false_term || eqb term true_term) l (record { used = l.used + 1; slots = set l.slots l.used term })))
 
 -- The same of a rule that may be removed already,
-abbrev added_if : Option Literals → (removing term : ℕ) → Option Literals
+abbrev pub added_if : Option Literals → (removing term : ℕ) → Option Literals
 added_if None removing term = None
 added_if (Some l) removing term = added l removing term
 

@@ -1,7 +1,7 @@
 //! The rule table as the code has it, and one rule of it: made, with its constants gone, and written.
 #![tactic(auto)]
 
-ghost use Rattle.std.specs.Prelude.{◌≡◌, true, ◌+◌, ◌≤◌, ◌<◌, length, get_or};
+ghost use Rattle.std.specs.Prelude.{◌≡◌, true, ◌+◌, ◌≤◌, ◌<◌, IfSome, length, get_or};
 ghost use Rattle.wire.specs.Wire.{over};
 ghost use Rattle.flat.specs.Table.{rows, label_count};
 ghost use Rattle.flat.specs.Flat.{fact};
@@ -118,7 +118,8 @@ impl Literals {
     // One literal more, or none where its term removes the rule.
     fn add(self, removing: usize, term: usize) -> Option<Literals>
         requires { self.used < 3 }
-        ensures { result ≡ added self removing term }
+        ensures value { result ≡ added self removing term }
+        ensures used { IfSome result (λ l. (self.used ≤ l.used) × (l.used ≤ self.used + 1)) }
     {
         if term == removing {
             return None;
@@ -144,11 +145,12 @@ impl Literals {
         count: usize,
     ) -> Option<Literals>
         requires { (self.used + count ≤ 3) × (start + count ≤ 6) × Named shape.now }
-        ensures { result ≡ added_to self removing (λ j. get_or terms.now.numbers (get_or shape.now (start + j) 0) 0) count }
+        ensures value { result ≡ added_to self removing (λ j. get_or terms.now.numbers (get_or shape.now (start + j) 0) 0) count }
+        ensures used { IfSome result (λ l. (self.used ≤ l.used) × (l.used ≤ self.used + count)) }
     {
         let mut all = self;
-        for j in start..start + count {
-            all = all.add(removing, terms.numbers[usize::from(shape[j])])?;
+        for j in 0..count {
+            all = all.add(removing, terms.numbers[usize::from(shape[start + j])])?;
         }
         Some(all)
     }
