@@ -1,8 +1,8 @@
 //! The program image in its two forms: flat rules as bytes.
 #![tactic(auto)]
 
-ghost use Rattle.std.specs.Prelude.{◌≡◌, true, false, cond, ◌&&◌, List, [], ◌∷◌, ℕ, ◌+◌, ◌-◌, ◌*◌, ◌≤◌, ◌<◌, ◌↔◌, IfOk, IsTrue, leb, ltb, length, drop};
-ghost use Rattle.refusal.specs.Limits.{most_atoms, most_b, most_rules};
+ghost use Rattle.std.specs.Prelude.{◌≡◌, true, cond, [], ◌∷◌, ◌+◌, ◌*◌, ◌≤◌, ◌<◌, IfOk, leb, ltb, length, drop};
+ghost use Rattle.refusal.specs.Limits.{most_atoms, most_b};
 ghost use Rattle.refusal.specs.Table.{none};
 ghost use Rattle.refusal.specs.Refusal.{Decides};
 ghost use Rattle.wire.specs.Wire.{over};
@@ -10,8 +10,8 @@ ghost use Rattle.logic.specs.Value.{number, negation};
 ghost use Rattle.logic.specs.Formula.{reading_of, value_of};
 ghost use Rattle.program.specs.Rule.{smallest, largest, holds};
 ghost use Rattle.program.specs.Program.{satisfies_program};
-ghost use Rattle.program.specs.Image.{atom_count, size_of, rule_count, most_literals, slot_count, rule_length, used_at, slot_at, slots_from, rule_at, length_at, program_of};
-ghost use Rattle.program.specs.Image.{slot_keeps, slots_keep, rule_keeps, slot_bytes, image_length, header};
+ghost use Rattle.program.specs.Image.{atom_count, size_of, most_literals, slot_count, rule_length, used_at, slot_at, slots_from, rule_at, length_at, program_of};
+ghost use Rattle.program.specs.Image.{slot_keeps, slots_keep, rule_keeps, image_length, header};
 ghost use Rattle.program.specs.Literals.{Named, literal_value, slot_put, Slotted, slotted_used, slotted_bytes};
 ghost use Rattle.program.specs.Rows.{outside, total_keeps, header_rows, rules_row, program_rows};
 
@@ -283,7 +283,7 @@ fn slot_bound(i: usize, used: usize, size: usize) -> usize
 }
 
 impl<'a> Program<'a> {
-    // A and B.
+    // A.
     #[tactic(auto, using(crate::proofs::Accepted::accepted_long, crate::proofs::Accepted::accepted_atoms))]
     pub fn atoms(&self) -> usize
         ensures { (result ≡ atom_count self.now.image.now) × (result ≤ most_atoms) }
@@ -291,6 +291,7 @@ impl<'a> Program<'a> {
         wire::u16_at(self.image, 0)
     }
 
+    // B.
     #[tactic(auto, using(crate::proofs::Accepted::accepted_long, crate::proofs::Accepted::accepted_size))]
     pub fn size(&self) -> usize
         ensures { (result ≡ size_of self.now.image.now) × (result ≤ most_b) }
