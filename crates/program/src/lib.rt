@@ -1,8 +1,8 @@
 //! The program image in its two forms: flat rules as bytes.
 #![tactic(auto)]
 
-ghost use Rattle.std.specs.Prelude.{◌≡◌, true, false, cond, ◌&&◌, List, [], ◌∷◌, ℕ, ◌+◌, ◌-◌, ◌*◌, ◌≤◌, ◌<◌, ◌↔◌, IfOk, IsTrue, leb, ltb, length, drop};
-ghost use Rattle.refusal.specs.Limits.{most_atoms, most_b, most_rules};
+ghost use Rattle.std.specs.Prelude.{◌≡◌, true, cond, [], ◌∷◌, ◌+◌, ◌*◌, ◌≤◌, ◌<◌, IfOk, leb, ltb, length, drop};
+ghost use Rattle.refusal.specs.Limits.{most_atoms, most_b};
 ghost use Rattle.refusal.specs.Table.{none};
 ghost use Rattle.refusal.specs.Refusal.{Decides};
 ghost use Rattle.wire.specs.Wire.{over};
@@ -10,8 +10,8 @@ ghost use Rattle.logic.specs.Value.{number, negation};
 ghost use Rattle.logic.specs.Formula.{reading_of, value_of};
 ghost use Rattle.program.specs.Rule.{smallest, largest, holds};
 ghost use Rattle.program.specs.Program.{satisfies_program};
-ghost use Rattle.program.specs.Image.{atom_count, size_of, rule_count, most_literals, slot_count, rule_length, used_at, slot_at, slots_from, rule_at, length_at, program_of};
-ghost use Rattle.program.specs.Image.{slot_keeps, slots_keep, rule_keeps, slot_bytes, image_length, header};
+ghost use Rattle.program.specs.Image.{atom_count, size_of, most_literals, slot_count, rule_length, used_at, slot_at, slots_from, rule_at, length_at, program_of};
+ghost use Rattle.program.specs.Image.{slot_keeps, slots_keep, rule_keeps, image_length, header};
 ghost use Rattle.program.specs.Literals.{Named, literal_value, slot_put, Slotted, slotted_used, slotted_bytes};
 ghost use Rattle.program.specs.Rows.{outside, total_keeps, header_rows, rules_row, program_rows};
 
@@ -283,7 +283,7 @@ fn slot_bound(i: usize, used: usize, size: usize) -> usize
 }
 
 impl<'a> Program<'a> {
-    // A and B.
+    // A.
     #[tactic(auto, using(crate::proofs::Accepted::accepted_long, crate::proofs::Accepted::accepted_atoms))]
     pub fn atoms(&self) -> usize
         ensures { (result ≡ atom_count self.now.image.now) × (result ≤ most_atoms) }
@@ -291,6 +291,7 @@ impl<'a> Program<'a> {
         wire::u16_at(self.image, 0)
     }
 
+    // B.
     #[tactic(auto, using(crate::proofs::Accepted::accepted_long, crate::proofs::Accepted::accepted_size))]
     pub fn size(&self) -> usize
         ensures { (result ≡ size_of self.now.image.now) × (result ≤ most_b) }
@@ -307,7 +308,11 @@ impl<'a> Program<'a> {
         let packed = wire::u16_at(self.image, 6) == 1;
         let mut rest = &self.image[HEADER_LENGTH..];
         for _ in 0..wire::u16_at(self.image, 4) {
-            if !rule_holds(rest, reading) {
+            let under = Under {
+                rule: rest,
+                reading,
+            };
+            if !under.holds() {
                 return false;
             }
             rest = behind_first(rest, packed);
@@ -316,48 +321,58 @@ impl<'a> Program<'a> {
     }
 }
 
-// Whether a reading satisfies the rule at the start of a slice: its largest head value is 2, or a value of its body is at most that.
-fn rule_holds(rule: &[u8], reading: &[u8]) -> bool
-    requires { Named rule.now (length reading.now) }
-    ensures { result ≡ holds (value_of (reading_of reading.now)) (rule_at rule.now) }
-{
-    let heads = usize::from(rule[0]);
-    let positives = usize::from(rule[1]);
-    let negatives = usize::from(rule[2]);
-    let head = largest_head(rule, heads, reading);
-    if head == Value::BOTH {
-        return true;
-    }
-    body_at_most(rule, heads, positives, false, reading, head)
-        || body_at_most(rule, heads + positives, negatives, true, reading, head)
+// The rule at the start of a slice, with all its literals there, beside a reading that has their atoms.
+#[derive(Clone, Copy)]
+struct Under<'a> {
+    rule: &'a [u8],
+    reading: &'a [u8],
+    ghost named: { Named rule.now (length reading.now) },
 }
 
-// The largest value of the first `count` slots.
-#[tactic(auto, using(crate::proofs::Literals::largest_none, crate::proofs::Literals::largest_more))]
-fn largest_head(rule: &[u8], count: usize, reading: &[u8]) -> Value
-    requires { Named rule.now (length reading.now) × (count ≤ used_at rule.now) }
-    ensures { result ≡ largest (value_of (reading_of reading.now)) (slots_from rule.now 0 count) }
-{
-    let mut largest = Value::NEITHER;
-    for i in 0..count {
-        largest = largest.or(value_at(rule, i, reading));
+impl<'a> Under<'a> {
+    // Whether the reading satisfies the rule: its largest head value is 2, or a value of its body is at most that.
+    fn holds(&self) -> bool
+        ensures { result ≡ holds (value_of (reading_of self.now.reading.now)) (rule_at self.now.rule.now) }
+    {
+        let heads = usize::from(self.rule[0]);
+        let positives = usize::from(self.rule[1]);
+        let negatives = usize::from(self.rule[2]);
+        let head = self.largest_head(heads);
+        if head == Value::BOTH {
+            return true;
+        }
+        self.body_at_most(heads, positives, false, head)
+            || self.body_at_most(heads + positives, negatives, true, head)
     }
-    largest
-}
 
-// Whether one of the literals in `count` slots from slot `start` on, all negative or all positive, has at most the value of a head that is not 2.
-fn body_at_most(
-    rule: &[u8],
-    start: usize,
-    count: usize,
-    negative: bool,
-    reading: &[u8],
-    head: Value,
-) -> bool
-    requires { Named rule.now (length reading.now) × (start + count ≤ used_at rule.now) × (number head < 2) }
-    ensures { result ≡ leb (number (smallest (literal_value negative (reading_of reading.now)) (slots_from rule.now start count))) (number head) }
-{
-    (start..start + count).any(|i| literal_value(value_at(rule, i, reading), negative) <= head)
+    // The largest value of the first `count` slots.
+    #[tactic(auto, using(crate::proofs::Literals::largest_none, crate::proofs::Literals::largest_more))]
+    fn largest_head(&self, count: usize) -> Value
+        requires { count ≤ used_at self.now.rule.now }
+        ensures { result ≡ largest (value_of (reading_of self.now.reading.now)) (slots_from self.now.rule.now 0 count) }
+    {
+        let mut largest = Value::NEITHER;
+        for i in 0..count {
+            largest = largest.or(self.value_at(i));
+        }
+        largest
+    }
+
+    // Whether one of the literals in `count` slots from slot `start` on, all negative or all positive, has at most the value of a head that is not 2.
+    fn body_at_most(&self, start: usize, count: usize, negative: bool, head: Value) -> bool
+        requires { (start + count ≤ used_at self.now.rule.now) × (number head < 2) }
+        ensures { result ≡ leb (number (smallest (literal_value negative (reading_of self.now.reading.now)) (slots_from self.now.rule.now start count))) (number head) }
+    {
+        (start..start + count).any(|i| literal_value(self.value_at(i), negative) <= head)
+    }
+
+    // The value of the atom in slot i.
+    fn value_at(&self, i: usize) -> Value
+        requires { i < used_at self.now.rule.now }
+        ensures { result ≡ value_of (reading_of self.now.reading.now) (slot_at self.now.rule.now i) }
+    {
+        Value::from(self.reading[slot_at(self.rule, i)])
+    }
 }
 
 // The value of a literal whose atom has this value.
@@ -365,12 +380,4 @@ fn literal_value(value: Value, negative: bool) -> Value
     ensures { result ≡ cond negative (negation value) value }
 {
     if negative { value.not() } else { value }
-}
-
-// The value of the atom in slot i.
-fn value_at(rule: &[u8], i: usize, reading: &[u8]) -> Value
-    requires { Named rule.now (length reading.now) × (i < used_at rule.now) }
-    ensures { result ≡ value_of (reading_of reading.now) (slot_at rule.now i) }
-{
-    Value::from(reading[slot_at(rule, i)])
 }

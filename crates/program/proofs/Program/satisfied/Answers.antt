@@ -18,16 +18,16 @@ pub loop-init : goal.loop-init
 unfolding behind
 loop-init c = (part_from header_length c.args.self.now.image.now, rw up_to-none)
 
-pub rule_holds-requires : goal.rule_holds-requires
-rule_holds-requires c =
-    rw c.requires (kept_named _ _ _ (kept c.args.self.now.image.now c.loop.counter c.args.self.now.checked c.loop.invariant.0 (omega arith)))
+pub invariant_of-under : goal.invariant_of-under
+invariant_of-under c =
+    record { named = rw c.requires (kept_named _ _ _ (kept c.args.self.now.image.now c.loop.counter c.args.self.now.checked c.loop.invariant.0 (omega arith))) }
 
-pub returns-then-not-rule_holds : goal.returns-then-not-rule_holds
+pub returns-then-not-holds : goal.returns-then-not-holds
 unfolding program_of
-returns-then-not-rule_holds c =
+returns-then-not-holds c =
     let p = c.args.self.now.image.now in
     sym (all_hold_broken (value_of (reading_of c.args.reading.now)) (λ k. rule_at (behind (is_packed p) (rule_section p) k)) (rule_count p) c.loop.counter
-    (omega arith) (rw (← c.loop.invariant.0, ← c.rule_holds.ensures) c.if-not-rule_holds.true))
+    (omega arith) (rw (← c.loop.invariant.0, ← c.holds.ensures) c.if-not-holds.true))
 
 pub behind_first-rest-requires : goal.behind_first-rest-requires
 behind_first-rest-requires c =
@@ -38,7 +38,7 @@ loop-preserved c =
     let p = c.args.self.now.image.now in (
       walk_on (is_packed p) (rule_section p) c.loop.counter c.loop.invariant.0 (rw c.u16_at-packed.ensures.0 at c.behind_first-rest.ensures),
       all_hold_more (value_of (reading_of c.args.reading.now)) (λ k. rule_at (behind (is_packed p) (rule_section p) k)) c.loop.counter c.loop.invariant.1
-          (rw (← c.loop.invariant.0, ← c.rule_holds.ensures) c.if-not-rule_holds.false),
+          (rw (← c.loop.invariant.0, ← c.holds.ensures) c.if-not-holds.false),
     )
 
 pub returns : goal.returns

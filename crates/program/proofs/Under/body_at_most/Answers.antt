@@ -11,13 +11,13 @@ use Rattle.program.specs.Image.{slot_at}
 use Rattle.program.specs.Literals.{literal_value}
 use Rattle.program.proofs.Literals.{any_at_most}
 use Rattle.program.proofs.Slots.{slots-list}
-use Rattle.program.proofs.body_at_most.Goals as goal
+use Rattle.program.proofs.Under.body_at_most.Goals as goal
 
 pub returns : goal.returns
 returns c =
     let a = c.args in
-    let v = literal_value a.negative (reading_of a.reading.now) in
-    let slot = slot_at a.rule.now in
+    let v = literal_value a.negative (reading_of a.self.now.reading.now) in
+    let slot = slot_at a.self.now.rule.now in
     any_from_yields_List (λ i. leb (number (v (slot i))) (number a.head)) _ _ c.any.result c.any.ensures.ran (YieldsList-from_range a.start (a.start + a.count) a.count refl (omega arith)) (λ x b q k. search (rules, tests))
-    ∙ any_at_most v slot a.head c.requires.2 (range_with_len a.start a.count)
-    ∙ ap (λ l. leb (number (smallest v l)) (number a.head)) (slots-list a.rule.now a.start a.count)
+    ∙ any_at_most v slot a.head c.requires.1 (range_with_len a.start a.count)
+    ∙ ap (λ l. leb (number (smallest v l)) (number a.head)) (slots-list a.self.now.rule.now a.start a.count)
