@@ -1,7 +1,7 @@
 -- Literals that are added one by one leave what simplifying the whole rule leaves: by induction on their number. Assumes nothing.
 use Rattle.std.proofs.Common.{Option, Some, None}
 use mathlib.Core.Path.{◌≡◌, refl, sym, ap, ◌∙◌}
-use mathlib.Core.Bool.{Bool, true, false, ◌||◌, cond, or-true, or-false, or_assoc}
+use mathlib.Core.Bool.{Bool, true, false, ◌||◌, cond, or-true}
 use mathlib.Core.List.{List, [], ◌∷◌, ◌++◌, map, append_assoc, append-nil}
 use Prim.Native.Nat.{ℕ, zero, suc, ◌+◌, ◌-◌, ◌≤◌, ◌<◌}
 use native.Mathlib.Decide.{le_ind}
@@ -12,9 +12,8 @@ use lib.ListN.{get_or, length, set, length-append, length-map}
 use borrow.Author.Tests.{eqb-true, ne_eqb, ltb-true, lt-ltb}
 use Rattle.refusal.proofs.Table.{cases}
 use Rattle.wire.specs.Sequence.{up_to}
-use Rattle.wire.proofs.Sequence.{length-up_to, map-up_to, up_to_equal}
+use Rattle.wire.proofs.Sequence.{length-up_to}
 use Rattle.program.specs.Rule.{RuleOf}
-use Rattle.program.specs.Literals.{Slotted}
 use Rattle.program.specs.Image.{slot_count, literals, literal_total, slot_bytes, rule_bytes, rules_bytes}
 use Rattle.program.proofs.Lengths.{literals_counted}
 use Rattle.flat.specs.Flat.{Term, constant, name, has, names, removes, reduce, simplify, fact}
