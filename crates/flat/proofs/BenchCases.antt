@@ -8,7 +8,10 @@ use lib.ListN.{take}
 use Rattle.logic.specs.Atoms.{Atoms}
 use Rattle.logic.specs.AnswerSet.{AnswerSet, answer_sets}
 use Rattle.logic.proofs.AnswerSets.{answer_sets_iff}
-use Rattle.theory.specs.Book.{Kind, Atom, Or, Node, Book, WellFormed, book_formulas}
+use Rattle.theory.specs.declared.Kind.{Kind}
+use Rattle.theory.specs.declared.Kind.TheVariants.{Atom, Or}
+use Rattle.theory.specs.declared.Node.{Node}
+use Rattle.theory.specs.Book.{Book, WellFormed, book_formulas}
 use Rattle.theory.specs.BenchCases.{BenchCase, bench_cases, atoms_from, sets_of}
 use Rattle.theory.proofs.BenchCases.{case-sets, case_well_formed}
 use Rattle.program.specs.Rule.{Rule}

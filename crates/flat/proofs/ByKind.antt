@@ -5,7 +5,9 @@ use mathlib.Core.List.{[]}
 use Prim.Native.Nat.{ℕ, ◌≤◌, ◌<◌}
 use native.Mathlib.Omega.{arith}
 use lib.ListN.{length}
-use Rattle.theory.specs.Book.{Kind, False, True, Atom, Not, And, Or, Implies, left_limit, right_limit}
+use Rattle.theory.specs.declared.Kind.{Kind}
+use Rattle.theory.specs.declared.Kind.TheVariants.{False, True, Atom, Not, And, Or, Implies}
+use Rattle.theory.specs.Book.{left_limit, right_limit}
 use Rattle.flat.specs.Table.{rows, label_count}
 
 -- A kind takes at most two labels.

@@ -18,7 +18,10 @@ use Rattle.logic.proofs.Bools.{&&_split}
 use Rattle.logic.proofs.Finite.{same, same_sound, same_refl}
 use Rattle.logic.proofs.Values.{up}
 use Rattle.logic.proofs.Formulas.{values_up}
-use Rattle.theory.specs.Book.{Kind, False, True, Atom, Not, And, Or, Implies, Node, node_at, Book, left_limit, right_limit, WellFormed, formula_at, formula, formulas, node_formulas}
+use Rattle.theory.specs.declared.Kind.{Kind}
+use Rattle.theory.specs.declared.Kind.TheVariants.{False, True, Atom, Not, And, Or, Implies}
+use Rattle.theory.specs.declared.Node.{Node}
+use Rattle.theory.specs.Book.{node_at, Book, left_limit, right_limit, WellFormed, formula_at, formula, formulas, node_formulas}
 use Rattle.theory.proofs.Books.{all_fit_at, length-formulas, formulas-keep, formulas_split, formulas_at}
 use Rattle.flat.specs.Table.{label_count}
 use Rattle.flat.specs.Flat.{label_total, flat}

@@ -7,7 +7,8 @@ use Rattle.logic.specs.Value.{smaller, larger, negation, implication}
 use Rattle.logic.specs.Formula.{Reading, value_of}
 use Rattle.logic.proofs.Bools.{beq_sound}
 use Rattle.logic.proofs.Finite.{every, same, agree₄}
-use Rattle.theory.specs.Book.{Kind, False, True, Atom, Not, And, Or, Implies}
+use Rattle.theory.specs.declared.Kind.{Kind}
+use Rattle.theory.specs.declared.Kind.TheVariants.{False, True, Atom, Not, And, Or, Implies}
 use Rattle.program.specs.Rule.{all_hold}
 use Rattle.flat.specs.Table.{Slot, x, y, L, M, rows}
 use Rattle.flat.specs.Flat.{Term, fill, instances}

@@ -13,7 +13,11 @@ use Rattle.logic.specs.Value.{number, smaller, larger, negation, true_here}
 use Rattle.logic.specs.Formula.{Formula, falsum, neg, Reading, value_of, value, satisfies}
 use Rattle.logic.proofs.Bools.{beq_sound, &&_split, &&_if}
 use Rattle.logic.proofs.Finite.{same, same_sound, agree₁, agree₂}
-use Rattle.theory.specs.Book.{Kind, False, True, Atom, Not, And, Or, Implies, Node, Pair, left_limit, left_fits, right_fits, fits, all_fit, pair_fits, pairs_fit, say, formula_at, formula, formulas, pair_formula}
+use Rattle.theory.specs.declared.Kind.{Kind}
+use Rattle.theory.specs.declared.Kind.TheVariants.{False, True, Atom, Not, And, Or, Implies}
+use Rattle.theory.specs.declared.Node.{Node}
+use Rattle.theory.specs.declared.Pair.{Pair}
+use Rattle.theory.specs.Book.{left_limit, left_fits, right_fits, fits, all_fit, pair_fits, pairs_fit, say, formula_at, formula, formulas, pair_formula}
 use Rattle.theory.proofs.PairLaws.{pair-below}
 use Rattle.program.specs.Rule.{all_hold}
 use Rattle.program.proofs.Rules.{all_hold-append}

@@ -12,7 +12,10 @@ use borrow.Author.Tests.{eq-eqb, ne_eqb}
 use Rattle.refusal.specs.Limits.{most_atoms, most_nodes, most_roots, most_pairs}
 use Rattle.refusal.proofs.Table.{cases}
 use Rattle.logic.proofs.Bools.{&&_split, ||-iff}
-use Rattle.theory.specs.Book.{Kind, Atom, Implies, Node, Book, fits, all_fit, WellFormed}
+use Rattle.theory.specs.declared.Kind.{Kind}
+use Rattle.theory.specs.declared.Kind.TheVariants.{Atom, Implies}
+use Rattle.theory.specs.declared.Node.{Node}
+use Rattle.theory.specs.Book.{Book, fits, all_fit, WellFormed}
 use Rattle.theory.specs.Used.{all_operands, among, used}
 use Rattle.theory.proofs.Books.{fits-left, fits-right}
 use Rattle.program.specs.Rule.{RuleOf}

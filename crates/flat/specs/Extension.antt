@@ -1,7 +1,10 @@
 -- What the labels stand for, and the extension of a reading to them.
 use Rattle.std.specs.Prelude.{◌≡◌, List, [], ◌∷◌, ◌++◌, map, ℕ, ◌+◌, length, take}
 use Rattle.logic.specs.Formula.{Formula, neg, Reading, value}
-use Rattle.theory.specs.Book.{Kind, False, True, Atom, Not, And, Or, Implies, Node, Book, formula_at, formula}
+use Rattle.theory.specs.declared.Kind.{Kind}
+use Rattle.theory.specs.declared.Kind.TheVariants.{False, True, Atom, Not, And, Or, Implies}
+use Rattle.theory.specs.declared.Node.{Node}
+use Rattle.theory.specs.Book.{Book, formula_at, formula}
 use Rattle.flat.specs.Flat.{label_total, flat}
 
 -- J is an extension of I, a reading of the book's atoms, to the labels.

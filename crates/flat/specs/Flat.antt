@@ -1,7 +1,11 @@
 -- The flat program of a book.
 use Rattle.std.specs.Prelude.{Bool, true, false, ◌||◌, cond, List, [], ◌∷◌, ◌++◌, map, ℕ, suc, ◌+◌, ◌*◌, ◌-◌, get_or}
 use Rattle.refusal.specs.Limits.{most_atoms, most_nodes, most_roots, most_pairs}
-use Rattle.theory.specs.Book.{Kind, False, True, Atom, Not, And, Or, Implies, Node, Pair, Book}
+use Rattle.theory.specs.declared.Kind.{Kind}
+use Rattle.theory.specs.declared.Kind.TheVariants.{False, True, Atom, Not, And, Or, Implies}
+use Rattle.theory.specs.declared.Node.{Node}
+use Rattle.theory.specs.declared.Pair.{Pair}
+use Rattle.theory.specs.Book.{Book}
 use Rattle.program.specs.Rule.{RuleOf, Rule}
 use Rattle.program.specs.Program.{Program}
 use Rattle.flat.specs.Table.{Slot, x, y, L, M, rows, label_count}

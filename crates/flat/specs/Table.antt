@@ -1,6 +1,7 @@
 -- The rule table: for each kind of node its labels and its rules.
 use Rattle.std.specs.Prelude.{List, [], ◌∷◌, ℕ}
-use Rattle.theory.specs.Book.{Kind, False, True, Atom, Not, And, Or, Implies}
+use Rattle.theory.specs.declared.Kind.{Kind}
+use Rattle.theory.specs.declared.Kind.TheVariants.{False, True, Atom, Not, And, Or, Implies}
 use Rattle.program.specs.Rule.{RuleOf}
 
 -- What stands in a row: the terms x of left and y of right, the label L, and M, the label for the negation of right.

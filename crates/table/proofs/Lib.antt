@@ -1,3 +1,3 @@
-pub mod Rows
+pub mod Shapes
 pub mod OneRule
 pub mod Names

@@ -1,7 +1,7 @@
 -- Literals that are added one by one leave what simplifying the whole rule leaves: by induction on their number. Assumes nothing.
 use Rattle.std.proofs.Common.{Option, Some, None}
 use mathlib.Core.Path.{◌≡◌, refl, sym, ap, ◌∙◌}
-use mathlib.Core.Bool.{Bool, true, false, ◌||◌, cond, or-true, or-false, or_assoc}
+use mathlib.Core.Bool.{Bool, true, false, ◌||◌, cond, or-true}
 use mathlib.Core.List.{List, [], ◌∷◌, ◌++◌, map, append_assoc, append-nil}
 use Prim.Native.Nat.{ℕ, zero, suc, ◌+◌, ◌-◌, ◌≤◌, ◌<◌}
 use native.Mathlib.Decide.{le_ind}
@@ -12,9 +12,8 @@ use lib.ListN.{get_or, length, set, length-append, length-map}
 use borrow.Author.Tests.{eqb-true, ne_eqb, ltb-true, lt-ltb}
 use Rattle.refusal.proofs.Table.{cases}
 use Rattle.wire.specs.Sequence.{up_to}
-use Rattle.wire.proofs.Sequence.{length-up_to, map-up_to, up_to_equal}
+use Rattle.wire.proofs.Sequence.{length-up_to}
 use Rattle.program.specs.Rule.{RuleOf}
-use Rattle.program.specs.Literals.{Slotted}
 use Rattle.program.specs.Image.{slot_count, literals, literal_total, slot_bytes, rule_bytes, rules_bytes}
 use Rattle.program.proofs.Lengths.{literals_counted}
 use Rattle.flat.specs.Flat.{Term, constant, name, has, names, removes, reduce, simplify, fact}
@@ -35,6 +34,7 @@ decode-code (constant false) h = refl
 decode-code (constant true) h = refl
 decode-code (name a) h = rw (ne_eqb a false_term (λ e. omega arith), ne_eqb a true_term (λ e. omega arith))
 
+-- The slot of a number has that number.
 pub slot_number-slot_of : (n : ℕ) → n < 4 → slot_number (slot_of n) ≡ n
 slot_number-slot_of zero h = refl
 slot_number-slot_of (suc zero) h = refl
@@ -65,11 +65,11 @@ length-names (name a ∷ ts) = omega (arith, length-names ts)
 -- ---- literals
 
 -- The literals l of a rule,
-abbrev pub kept : List ℕ → Literals
+abbrev kept : List ℕ → Literals
 kept l = record { used = length l; slots = first_three l }
 
 -- if it stays.
-abbrev pub state : (removed : Bool) → List ℕ → Option Literals
+abbrev state : (removed : Bool) → List ℕ → Option Literals
 state b l = cond b None (Some (kept l))
 
 -- A name takes the next slot.
@@ -79,6 +79,7 @@ pushed (b ∷ []) a h = refl
 pushed (b ∷ c ∷ []) a h = refl
 pushed (b ∷ c ∷ d ∷ l) a h = absurd (omega arith)
 
+-- A term more may remove the rule, and else leaves its name,
 added_state : (b c : Bool) (l : List ℕ) (n : ℕ) → length l < 3
     → added_if (state b l) (code (constant c)) n ≡ state (b || has c (decode n ∷ [])) (l ++ names (decode n ∷ []))
 added_state true c l n h = refl
@@ -99,7 +100,8 @@ added_state false c l n h = cases (eqb n false_term)
     other true f g = rw (f, g, pushed l n h, length-append)
     other false f g = rw (f, g, pushed l n h, length-append)
 
-pub added_to_state : (c : Bool) (l : List ℕ) (f : ℕ → ℕ) (n : ℕ) → length l + n ≤ 3
+-- and so do n terms.
+added_to_state : (c : Bool) (l : List ℕ) (f : ℕ → ℕ) (n : ℕ) → length l + n ≤ 3
     → added_to (kept l) (code (constant c)) f n ≡ state (has c (up_to (λ j. decode (f j)) n)) (l ++ names (up_to (λ j. decode (f j)) n))
 unfolding added_to up_to
 added_to_state c l f zero h = rw append-nil
@@ -130,6 +132,10 @@ stayed false l a e = (refl, cc)
 gone : (b : Bool) (l : List ℕ) → None ≡ state b l → b ≡ true
 gone true l e = refl
 gone false l e = cc
+
+-- What stands behind a list has the rest of the length.
+behind : (l m : List ℕ) → length (l ++ m) - length l ≡ length m
+behind l m = rw length-append (omega arith)
 
 -- Terms f as heads, then g as positives, then h as negatives.
 module _ (f g h : ℕ → ℕ) (H P N : ℕ) (few : H + P + N ≤ 3) where
@@ -186,11 +192,17 @@ module _ (f g h : ℕ → ℕ) (H P N : ℕ) (few : H + P + N ≤ 3) where
       let x = stayed _ _ a (heads-are _ e) in
       let y = stayed _ _ b (positives-are a _ e k) in
       let z = stayed _ _ d (negatives-are a b _ e k m) in
-      let p : length (names rule.heads ++ names rule.positives) - length (names rule.heads) ≡ length (names rule.positives) = rw length-append (omega arith) in
-      let n : length ((names rule.heads ++ names rule.positives) ++ names rule.negatives) - length (names rule.heads ++ names rule.positives) ≡ length (names rule.negatives) =
-          omega (arith, length-append (names rule.heads ++ names rule.positives) (names rule.negatives))
-      in
-      rw (x.0, y.0, z.0, x.1, y.1, z.1, p, n, append_assoc)
+      rw (
+        x.0,
+        y.0,
+        z.0,
+        x.1,
+        y.1,
+        z.1,
+        behind (names rule.heads) (names rule.positives),
+        behind (names rule.heads ++ names rule.positives) (names rule.negatives),
+        append_assoc,
+      )
 
 -- A fact is its one head.
 module _ (n : ℕ) where

@@ -1,5 +1,5 @@
 -- One rule as the code makes it: terms as numbers, and literals added one by one. Notes on the code, which no public promise names.
-use Rattle.std.specs.Prelude.{◌≡◌, Bool, true, false, not, ◌&&◌, ◌||◌, cond, List, [], ◌∷◌, ℕ, zero, suc, ◌+◌, ◌≤◌, eqb, ltb, get_or, length, set, Option, Some, None}
+use Rattle.std.specs.Prelude.{Bool, true, false, ◌&&◌, ◌||◌, cond, List, [], ◌∷◌, ℕ, zero, suc, ◌+◌, eqb, ltb, get_or, length, set, Option, Some, None}
 use Rattle.program.specs.Rule.{RuleOf, Rule}
 use Rattle.program.specs.Literals.{Slotted, slotted_used, slotted_bytes}
 use Rattle.program.specs.Image.{literals}

@@ -2,7 +2,8 @@
 use Rattle.std.specs.Prelude.{◌≡◌, cond, List, [], ◌∷◌, ℕ, ◌+◌, ◌≤◌, ◌<◌, eqb, ltb, length, get_or, take, drop}
 use Rattle.wire.specs.Sequence.{up_to}
 use Rattle.program.specs.Rule.{RuleOf}
-use Rattle.theory.specs.Book.{Kind, False, True, Atom, Not, And, Or, Implies}
+use Rattle.theory.specs.declared.Kind.{Kind}
+use Rattle.theory.specs.declared.Kind.TheVariants.{False, True, Atom, Not, And, Or, Implies}
 use Rattle.flat.specs.Table.{Slot, x, y, L, M, rows}
 
 -- A row: heads, positives, negatives, and which term in which slot, where x is 0, y 1, L 2 and M 3; 4 is an unused slot.

@@ -6,7 +6,7 @@ ghost use Rattle.wire.specs.Wire.{over};
 ghost use Rattle.flat.specs.Table.{rows, label_count};
 ghost use Rattle.flat.specs.Flat.{fact};
 ghost use Rattle.table.specs.Shapes.{kind_shapes, rows_literals, Named, Fillable};
-ghost use Rattle.table.specs.OneRule.{decode, rule_in, all_names, no_literals, added, added_to, made_of, made_bytes, made_count, made_literals};
+ghost use Rattle.table.specs.OneRule.{decode, rule_in, all_names, no_literals, added, added_to, made_of, made_bytes};
 
 use program::Rule;
 use theory::Kind;

@@ -1,6 +1,5 @@
 -- `fact_of` makes a fact: its one literal is a head. Assumes nothing.
-use Rattle.std.proofs.Common.{refl, ◌∙◌}
-use Rattle.table.specs.OneRule.{added_to}
+use Rattle.std.proofs.Common.{◌∙◌}
 use Rattle.table.proofs.OneRule.{fact_removed, fact_made}
 use Rattle.table.proofs.fact_of.Goals as goal
 

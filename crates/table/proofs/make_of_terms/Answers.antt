@@ -2,7 +2,6 @@
 use Rattle.std.proofs.Common.{◌≡◌, ap, ◌∙◌, ◌+◌, ◌-◌, ◌≤◌, List, ℕ, get_or, map, arith, Option, Some, None}
 use Rattle.wire.specs.Sequence.{up_to}
 use Rattle.wire.proofs.Sequence.{map-up_to, up_to_equal}
-use Rattle.flat.specs.Flat.{Term}
 use Rattle.table.specs.declared.Literals.{Literals}
 use Rattle.table.specs.Shapes.{slot_of, slots_from, used_by, Fillable}
 use Rattle.table.specs.OneRule.{false_term, true_term, decode, filled, rule_in, no_literals, added_to, made_of}

@@ -1,5 +1,5 @@
 -- Each turn adds one term, and where one removes the rule none is added after it.
-use Rattle.std.proofs.Common.{◌≡◌, refl, sym, ◌∙◌, ◌+◌, ◌≤◌, arith, ℕ, get_or, Option, Some, None}
+use Rattle.std.proofs.Common.{◌≡◌, refl, sym, ◌+◌, arith, ℕ, Option, Some}
 use Rattle.table.specs.declared.Literals.{Literals}
 use Rattle.table.specs.OneRule.{added, added_to}
 use Rattle.table.proofs.OneRule.{added_to_more, added_to-none}

@@ -9,7 +9,8 @@ use borrow.Author.Tests.{leb-true, ltb-true}
 use Rattle.logic.proofs.Bools.{&&_split, beq_sound}
 use Rattle.logic.proofs.Finite.{all, all_at}
 use Rattle.wire.specs.Sequence.{up_to}
-use Rattle.theory.specs.Book.{Kind, False, True, Atom, Not, And, Or, Implies}
+use Rattle.theory.specs.declared.Kind.{Kind}
+use Rattle.theory.specs.declared.Kind.TheVariants.{False, True, Atom, Not, And, Or, Implies}
 use Rattle.flat.specs.Table.{rows}
 use Rattle.table.specs.Shapes.{kind_shapes, used_by, shape_rule, Fillable}
 
