@@ -17,7 +17,7 @@ use Rattle.logic.specs.Atoms.{Atoms}
 use Rattle.logic.specs.AnswerSet.{is_answer_set}
 use Rattle.theory.specs.Book.{book_formulas}
 use Rattle.theory.specs.Image.{atom_count, book_of}
-use Rattle.stable.specs.Image.{Testable}
+use Rattle.stable.specs.Testable.{Testable}
 use Rattle.stable.specs.Subset.{set_of, odd, candidate_of}
 use Rattle.stable.specs.Number.{number_of, set_of_number}
 use Rattle.stable.specs.Bitmap.{bit_at, eight_of, is_listed, Listable}
@@ -71,7 +71,7 @@ module _ (test : ℕ → Bool) (bitmap : List ℕ) (i : ℕ) (fits : i < length 
 -- Room of the same lengths will do as well.
 pub listable_kept : {theory reading values reading₂ values₂ : List ℕ} → Listable theory reading values
     → length reading₂ ≡ length reading → length values₂ ≡ length values → Listable theory reading₂ values₂
-listable_kept l r v = record { checked = l.checked; few = l.few; sized = r ∙ l.sized; long = rw v l.long }
+listable_kept l r v = record { few = l.few; sized = r ∙ l.sized; long = rw v l.long }
 
 -- The candidate of a number's set can be tested, and the test says whether that set is listed.
 module _ {theory reading values : List ℕ} (l : Listable theory reading values) (c : ℕ) where
@@ -81,9 +81,9 @@ module _ {theory reading values : List ℕ} (l : Listable theory reading values)
   length-numbered : length numbered ≡ atom_count theory
   length-numbered = length-candidate_of (set_of_number (length reading) c) ∙ length-set_of_number _ _ ∙ l.sized
 
-  pub number_testable : Testable false theory numbered
+  pub number_testable : Testable (atom_count theory) numbered
   number_testable = record {
-    checked = l.checked;
+    small = omega (arith, l.few);
     accepted = argument_rows-none true _ numbered length-numbered (candidate_of_candidate _);
     few = omega (arith, count_true_le numbered, length-numbered, l.few);
   }

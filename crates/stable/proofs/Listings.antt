@@ -4,9 +4,12 @@ use mathlib.Core.Logic.{⊎_elim}
 use mathlib.Core.Bool.{Bool, true, false, cond}
 use mathlib.Core.List.{List, [], ◌∷◌, ◌++◌, map, map-append, append-nil}
 use Prim.Native.Nat.{ℕ, zero, suc, ◌+◌, ◌*◌, ◌^◌, ◌≤◌, ◌<◌}
-use native.Mathlib.Nat.{eq-or-lt_of_le}
+use native.Mathlib.Nat.{eq-or-lt_of_le, zero-add}
 use native.Mathlib.Numerals.{add-one}
 use native.Mathlib.Omega.{arith}
+use Rattle.std.specs.List.{range_with_len, count_by}
+use Rattle.std.proofs.lemmas.List.{map-id}
+use Rattle.std.proofs.lemmas.List.FromFn.{sum_by-map-range_with_len_more}
 use lib.Dec.{ltb}
 use lib.ListN.{length, get_or, length-append, length-map, get_or-append}
 use lib.Seq.{get_or_at}
@@ -45,6 +48,19 @@ length-passing test (suc n) = rw length-append (omega (arith, one (test n), leng
     one : (b : Bool) → length (cond b (n ∷ []) []) ≤ 1
     one true = omega arith
     one false = omega arith
+
+-- They are as many as the library counts.
+pub passing-count_by : (test : ℕ → Bool) (n : ℕ) → count_by test (range_with_len 0 n) ≡ length (passing test n)
+unfolding passing
+passing-count_by test zero = refl
+passing-count_by test (suc n) =
+    let more : count_by test (range_with_len 0 (n + 1)) ≡ count_by test (range_with_len 0 n) + cond (test n) 1 0
+    = rw (map-id, map-id) at (sum_by-map-range_with_len_more (λ c. cond (test c) 1 0) (λ c. c) 0 n n (zero-add n)) in
+    ap (λ k. count_by test (range_with_len 0 k)) (sym (add-one n)) ∙ more ∙ rw (passing-count_by test n, length-append) (ap (λ k. length (passing test n) + k) (one (test n)))
+  where
+    one : (b : Bool) → cond b 1 0 ≡ length (cond b (n ∷ []) [])
+    one true = refl
+    one false = refl
 
 pub passing_le : (test : ℕ → Bool) (n m : ℕ) → n ≤ m → length (passing test n) ≤ length (passing test m)
 unfolding passing

@@ -1,4 +1,4 @@
--- The candidate test: what the readings that are tried say of the candidate's set. Each from the law of the numbered subsets.
+-- The candidate test: what the readings that are tried say of the candidate's set. Each from the law of the numbered subsets. Assumes nothing.
 use mathlib.Core.Path.{◌≡◌, sym, ap, ◌∙◌}
 use mathlib.Core.Logic.{◌↔◌}
 use mathlib.Core.Bool.{Bool, true, false}
@@ -8,45 +8,31 @@ use native.Mathlib.Omega.{arith}
 use lib.ListN.{length}
 use lib.Pow.{pow_pos}
 use Rattle.refusal.specs.Limits.{most_b}
-use Rattle.refusal.specs.Table.{none}
 use Rattle.refusal.specs.Rows.{count_true}
 use Rattle.refusal.proofs.Rows.{none-argument_rows}
-use Rattle.logic.specs.Formula.{reading_of, satisfies}
+use Rattle.logic.specs.Formula.{Formula, reading_of, satisfies}
 use Rattle.logic.specs.Atoms.{reading}
 use Rattle.logic.specs.AnswerSet.{is_answer_set}
 use Rattle.logic.proofs.Bools.{false_of, not_both}
-use Rattle.program.proofs.Accepted.{none-program_rows}
-use Rattle.theory.proofs.Accepted.{accepted}
-use Rattle.stable.specs.Image.{image_rows, atoms_of, most_bytes, formulas_of, Testable}
+use Rattle.stable.specs.Testable.{Testable}
 use Rattle.stable.specs.Subset.{set_of, subset, Candidate, lowered}
 use Rattle.stable.proofs.Subsets.{size, is_answer_set_subsets}
 use Rattle.stable.proofs.Steps.{lowered_anew}
 use Rattle.stable.proofs.Candidates.{length-set_of, candidate_reading, candidate_size, candidate_full, lowered-reading}
 
 -- The smaller reading with the number m satisfies.
-abbrev pub satisfies_lowered : Bool → (image candidate : List ℕ) → ℕ → Bool
-satisfies_lowered program image candidate m = satisfies (reading_of (lowered (set_of candidate) m)) (formulas_of program image)
+abbrev pub satisfies_lowered : List Formula → (candidate : List ℕ) → ℕ → Bool
+satisfies_lowered formulas candidate m = satisfies (reading_of (lowered (set_of candidate) m)) formulas
 
-module _ (program : Bool) (image candidate : List ℕ) (t : Testable program image candidate) where
-  pub testable_length : length candidate ≡ atoms_of program image
-  testable_length = (none-argument_rows true (atoms_of program image) candidate t.accepted).0
+module _ (atoms : ℕ) (candidate : List ℕ) (t : Testable atoms candidate) where
+  pub testable_length : length candidate ≡ atoms
+  testable_length = (none-argument_rows true atoms candidate t.accepted).0
 
   pub testable_candidate : Candidate candidate
-  testable_candidate = (none-argument_rows true (atoms_of program image) candidate t.accepted).1
-
-  pub testable_short : length candidate ≤ most_bytes program
-  testable_short = rw testable_length (few program t.checked)
-    where
-      few : (program : Bool) → none (image_rows program image) ≡ true → atoms_of program image ≤ most_bytes program
-      few true h = (none-program_rows image h).inside.size
-      few false h = (accepted image h).header.few-atoms
+  testable_candidate = (none-argument_rows true atoms candidate t.accepted).1
 
   pub testable_small : length candidate ≤ most_b
-  testable_small = omega (arith, testable_short, most program)
-    where
-      most : (program : Bool) → most_bytes program ≤ most_b
-      most true = omega arith
-      most false = omega arith
+  testable_small = rw testable_length t.small
 
   -- The candidate is the reading of the full subset, and the steps from it go through the smaller readings from the empty subset on.
   pub full_reading : candidate ≡ lowered (set_of candidate) (2 ^ count_true candidate - 1)
@@ -58,24 +44,25 @@ module _ (program : Bool) (image candidate : List ℕ) (t : Testable program ima
       let anew : 2 ^ count_true candidate - 1 + (m + 1) ≡ 2 ^ size (set_of candidate) + m = rw count (omega (arith, pow_pos (count_true candidate))) in
       ap (lowered (set_of candidate)) anew ∙ lowered_anew (set_of candidate) m
 
-  -- A candidate is an answer set exactly if it satisfies and no smaller reading does.
-  pub answer_iff : (is_answer_set (atoms_of program image) (formulas_of program image) (set_of candidate) ≡ true)
-      ↔ ((satisfies (reading_of candidate) (formulas_of program image) ≡ true) × ((m : ℕ) → m < 2 ^ count_true candidate - 1 → satisfies_lowered program image candidate m ≡ false))
-  answer_iff =
-      let law = is_answer_set_subsets (atoms_of program image) (formulas_of program image) (set_of candidate) (length-set_of candidate ∙ testable_length) in
-      let same : (m : ℕ) → satisfies_lowered program image candidate m ≡ satisfies (reading (subset (set_of candidate) m) (set_of candidate)) (formulas_of program image)
-      = λ m. ap (λ I. satisfies I (formulas_of program image)) (lowered-reading (set_of candidate) m) in
-      let whole : satisfies (reading_of candidate) (formulas_of program image) ≡ satisfies (reading (set_of candidate) (set_of candidate)) (formulas_of program image)
-      = ap (λ I. satisfies I (formulas_of program image)) (candidate_reading candidate testable_candidate) in
-      let count = candidate_size candidate testable_candidate in (
-        λ h. let s = law.0 h in (whole ∙ s.0, λ m l. same m ∙ s.1 m (rw count l)),
-        λ h. law.1 (sym whole ∙ h.0, λ m l. sym (same m) ∙ h.1 m (rw (← count) l)),
-      )
+  module _ (formulas : List Formula) where
+    -- A candidate is an answer set exactly if it satisfies and no smaller reading does.
+    pub answer_iff : (is_answer_set atoms formulas (set_of candidate) ≡ true)
+        ↔ ((satisfies (reading_of candidate) formulas ≡ true) × ((m : ℕ) → m < 2 ^ count_true candidate - 1 → satisfies_lowered formulas candidate m ≡ false))
+    answer_iff =
+        let law = is_answer_set_subsets atoms formulas (set_of candidate) (length-set_of candidate ∙ testable_length) in
+        let same : (m : ℕ) → satisfies_lowered formulas candidate m ≡ satisfies (reading (subset (set_of candidate) m) (set_of candidate)) formulas
+        = λ m. ap (λ I. satisfies I formulas) (lowered-reading (set_of candidate) m) in
+        let whole : satisfies (reading_of candidate) formulas ≡ satisfies (reading (set_of candidate) (set_of candidate)) formulas
+        = ap (λ I. satisfies I formulas) (candidate_reading candidate testable_candidate) in
+        let count = candidate_size candidate testable_candidate in (
+          λ h. let s = law.0 h in (whole ∙ s.0, λ m l. same m ∙ s.1 m (rw count l)),
+          λ h. law.1 (sym whole ∙ h.0, λ m l. sym (same m) ∙ h.1 m (rw (← count) l)),
+        )
 
-  -- So one that does not satisfy is none, and neither is one with a smaller reading that does.
-  pub answer_unsatisfied : satisfies (reading_of candidate) (formulas_of program image) ≡ false → is_answer_set (atoms_of program image) (formulas_of program image) (set_of candidate) ≡ false
-  answer_unsatisfied f = false_of _ (λ h. not_both f (answer_iff.0 h).0)
+    -- So one that does not satisfy is none, and neither is one with a smaller reading that does.
+    pub answer_unsatisfied : satisfies (reading_of candidate) formulas ≡ false → is_answer_set atoms formulas (set_of candidate) ≡ false
+    answer_unsatisfied f = false_of _ (λ h. not_both f (answer_iff.0 h).0)
 
-  pub answer-smaller : (m : ℕ) → m < 2 ^ count_true candidate - 1 → satisfies_lowered program image candidate m ≡ true
-      → is_answer_set (atoms_of program image) (formulas_of program image) (set_of candidate) ≡ false
-  answer-smaller m l s = false_of _ (λ h. not_both ((answer_iff.0 h).1 m l) s)
+    pub answer-smaller : (m : ℕ) → m < 2 ^ count_true candidate - 1 → satisfies_lowered formulas candidate m ≡ true
+        → is_answer_set atoms formulas (set_of candidate) ≡ false
+    answer-smaller m l s = false_of _ (λ h. not_both ((answer_iff.0 h).1 m l) s)

@@ -1,7 +1,8 @@
 //! The candidate test of either image, and the listing of a small theory's answer sets.
 #![tactic(auto)]
 
-ghost use Rattle.std.specs.Prelude.{◌≡◌, true, ℕ, List, ◌+◌, ◌*◌, ◌^◌, ◌≤◌, ◌<◌, length, take};
+ghost use Rattle.std.specs.Prelude.{◌≡◌, true, ℕ, List, ◌+◌, ◌*◌, ◌^◌, ◌≤◌, ◌<◌, count_by, length, take};
+ghost use Rattle.std.specs.List.{range_with_len};
 ghost use Rattle.wire.specs.Wire.{over, all_below};
 ghost use Rattle.refusal.specs.Limits.{most_nodes, most_b, most_true};
 ghost use Rattle.refusal.specs.Table.{none, answer};
@@ -147,6 +148,7 @@ pub fn test<I: Image, const READING: usize, const VALUES: usize>(
     requires testable { Testable (I.atoms_of image.now) candidate.now }
     requires reading_room { I.atoms_of image.now ≤ READING }
     requires values_room { I.most_values ≤ VALUES }
+    requires rooms { (READING ≤ most_b) × (VALUES ≤ most_nodes) }
     ensures { result ≡ is_answer_set (I.atoms_of image.now) (I.formulas_of image.now) (set_of candidate.now) }
 {
     let mut reading = [0u8; READING];
@@ -207,7 +209,7 @@ fn bit_at(bitmap: &[u8; 512], c: usize) -> bool
 // How many of the first `n` bits are set.
 fn count_set(bitmap: &[u8; 512], n: usize) -> usize
     requires { n ≤ 4096 }
-    ensures { result ≡ length (passing (bit_at bitmap.now) n) }
+    ensures { result ≡ count_by (bit_at bitmap.now) (range_with_len 0 n) }
 {
     (0..n).filter(|&c| bit_at(bitmap, c)).count()
 }
