@@ -1,3 +1,2 @@
-pub mod Candidate
-pub mod Clear
+pub mod Behind
 pub mod Promises
