@@ -1,7 +1,8 @@
 // The public calls, by the two letters that a script has for each.
-use refusal::Answer;
+use crate::words::Words;
+use refusal::Refusal;
 
-#[derive(Clone, Copy)]
+#[derive(Clone, Copy, Debug, PartialEq, Eq)]
 pub enum Call {
     CheckTheory,
     EvaluateTheory,
@@ -13,83 +14,53 @@ pub enum Call {
     CheckProgram,
     EvaluateProgram,
     TestProgram,
-    Unknown,
 }
 
-// What a call takes besides an image.
-pub const NOTHING: u8 = 0;
-
-pub const READING: u8 = 1;
-
-pub const OUTPUT: u8 = 2;
-
-pub const BOTH: u8 = 3;
-
-pub const NO_CALL: u8 = 4;
-
-// The call whose letters begin a line, alone or before a space.
-pub fn named(text: &[u8]) -> Call {
-    if text.len() < 2 {
-        return Call::Unknown;
+impl Call {
+    // The call that has these letters.
+    pub fn named(letters: &[u8]) -> Option<Call> {
+        match letters {
+            b"ct" => Some(Call::CheckTheory),
+            b"et" => Some(Call::EvaluateTheory),
+            b"tr" => Some(Call::Translate),
+            b"tk" => Some(Call::TranslatePacked),
+            b"ex" => Some(Call::Extend),
+            b"tt" => Some(Call::TestTheory),
+            b"ls" => Some(Call::ListSets),
+            b"cp" => Some(Call::CheckProgram),
+            b"ep" => Some(Call::EvaluateProgram),
+            b"tp" => Some(Call::TestProgram),
+            _ => None,
+        }
     }
-    if 2 < text.len() && text[2] != b' ' {
-        return Call::Unknown;
-    }
-    of_letters(text[0], text[1])
-}
 
-fn of_letters(first: u8, second: u8) -> Call {
-    match first {
-        b'c' => match second {
-            b't' => Call::CheckTheory,
-            b'p' => Call::CheckProgram,
-            _ => Call::Unknown,
-        },
-        b'e' => match second {
-            b't' => Call::EvaluateTheory,
-            b'p' => Call::EvaluateProgram,
-            b'x' => Call::Extend,
-            _ => Call::Unknown,
-        },
-        b't' => match second {
-            b't' => Call::TestTheory,
-            b'p' => Call::TestProgram,
-            b'r' => Call::Translate,
-            b'k' => Call::TranslatePacked,
-            _ => Call::Unknown,
-        },
-        b'l' => match second {
-            b's' => Call::ListSets,
-            _ => Call::Unknown,
-        },
-        _ => Call::Unknown,
-    }
-}
-
-pub fn shape(call: Call) -> u8 {
-    match call {
-        Call::CheckTheory | Call::CheckProgram => NOTHING,
-        Call::EvaluateTheory | Call::TestTheory | Call::EvaluateProgram | Call::TestProgram =>
-            READING,
-        Call::Translate | Call::TranslatePacked | Call::ListSets => OUTPUT,
-        Call::Extend => BOTH,
-        Call::Unknown => NO_CALL,
-    }
-}
-
-// What the call gives. It is handed only what its shape says.
-pub fn answer(call: Call, image: &[u8], reading: &[u8], out: &mut [u8]) -> Answer {
-    match call {
-        Call::CheckTheory => rulebook::rulebook_check_theory(image),
-        Call::EvaluateTheory => rulebook::rulebook_evaluate_theory(image, reading),
-        Call::Translate => rulebook::rulebook_translate(image, false, out),
-        Call::TranslatePacked => rulebook::rulebook_translate(image, true, out),
-        Call::Extend => rulebook::rulebook_extend(image, reading, out),
-        Call::TestTheory => rulebook::rulebook_test_theory(image, reading),
-        Call::ListSets => rulebook::rulebook_list_sets(image, out),
-        Call::CheckProgram => rulebook::rulebook_check_program(image),
-        Call::EvaluateProgram => rulebook::rulebook_evaluate_program(image, reading),
-        Call::TestProgram => rulebook::rulebook_test_program(image, reading),
-        Call::Unknown => refusal::refuse(0, 0),
+    // What the call gives; none where the words are not those that it takes.
+    pub fn outcome(self, words: Words, out: &mut [u8]) -> Option<Result<usize, Refusal>> {
+        let image = words.image;
+        Some(match (self, words.reading, words.out) {
+            (Call::CheckTheory, None, None) => rulebook::rulebook_check_theory(image),
+            (Call::EvaluateTheory, Some(reading), None) => rulebook::rulebook_evaluate_theory(
+                image, reading,
+            ),
+            (Call::Translate, None, Some(_)) => rulebook::rulebook_translate(image, false, out),
+            (Call::TranslatePacked, None, Some(_)) => rulebook::rulebook_translate(
+                image, true, out,
+            ),
+            (Call::Extend, Some(reading), Some(_)) => rulebook::rulebook_extend(
+                image, reading, out,
+            ),
+            (Call::TestTheory, Some(reading), None) => rulebook::rulebook_test_theory(
+                image, reading,
+            ),
+            (Call::ListSets, None, Some(_)) => rulebook::rulebook_list_sets(image, out),
+            (Call::CheckProgram, None, None) => rulebook::rulebook_check_program(image),
+            (Call::EvaluateProgram, Some(reading), None) => rulebook::rulebook_evaluate_program(
+                image, reading,
+            ),
+            (Call::TestProgram, Some(reading), None) => rulebook::rulebook_test_program(
+                image, reading,
+            ),
+            _ => return None,
+        })
     }
 }

@@ -8,27 +8,14 @@
 #![tactic(auto)]
 
 use call::Call;
+use kept::Kept;
 use refusal::Answer;
 use std::io::{self, Read, Write};
-use words::Words;
 
 mod call;
+mod kept;
 mod print;
 mod words;
-
-// How many bytes are kept of the last accepted translation and extension.
-#[derive(Drop)]
-struct Kept {
-    program: usize,
-    extension: usize,
-}
-
-// What became of a line.
-#[derive(Drop)]
-enum Outcome {
-    Given(Answer),
-    Malformed,
-}
 
 fn main(rt: HostRuntime) -> io::Result<()> {
     let mut script = [0u8; 327680];
@@ -39,133 +26,43 @@ fn main(rt: HostRuntime) -> io::Result<()> {
 
 // Runs the lines of the script one after the other.
 fn run(writer: &mut impl Write, script: &[u8]) -> io::Result<()> {
-    let mut program = [0u8; 65536];
-    let mut extension = [0u8; 4096];
-    let mut kept = Kept {
-        program: 0,
-        extension: 0,
-    };
-    let mut number = 1;
-    let mut at = 0;
-    while at < script.len() {
-        let rest = &script[at..];
-        let size = words::find(rest, b'\n');
-        kept = run_line(
-            writer,
-            &rest[0..size],
-            number,
-            &mut program,
-            &mut extension,
-            kept,
-        )?;
-        number += 1;
-        at = at + size + 1;
+    let mut kept = Kept::new();
+    let lines = script.split_inclusive(|&byte| byte == b'\n');
+    for (before, line) in lines.enumerate() {
+        let text = line.strip_suffix(b"\n").unwrap_or(line);
+        run_line(writer, before + 1, text, &mut kept)?;
     }
     Ok(())
 }
 
-// Runs one line, and gives what is kept after it.
+// Runs one line, and prints what it gave.
 fn run_line(
     writer: &mut impl Write,
-    text: &[u8],
     number: usize,
-    program: &mut [u8],
-    extension: &mut [u8],
-    kept: Kept,
-) -> io::Result<Kept> {
-    if is_remark(text) {
-        print::line(writer, text)?;
-        return Ok(kept);
+    text: &[u8],
+    kept: &mut Kept,
+) -> io::Result<()> {
+    if text.is_empty() || text.starts_with(b"#") {
+        return print::line(writer, text);
     }
+    let mut out = [0xaa; 65536];
+    match run_call(text, kept, &mut out) {
+        Some((answer, written)) => print::answer(writer, answer, written),
+        None => print::malformed(writer, number),
+    }
+}
+
+// Makes the call of a line: its answer, and its output; none where the line is malformed.
+fn run_call<'a>(text: &[u8], kept: &mut Kept, out: &'a mut [u8]) -> Option<(Answer, &'a [u8])> {
+    let (letters, arguments) = words::cut(text, b' ');
+    let call = Call::named(letters)?;
     let mut image = [0u8; 65536];
     let mut reading = [0u8; 4096];
-    let mut out = [0u8; 65536];
-    let call = call::named(text);
-    let words = words::read(
-        text,
-        words::first(program, kept.program),
-        words::first(extension, kept.extension),
-        &mut image,
-        &mut reading,
-    );
-    match run_call(writer, call, words, &image, &reading, &mut out)? {
-        Outcome::Given(answer) => Ok(keep(call, answer, &out, program, extension, kept)),
-        Outcome::Malformed => {
-            print::malformed(writer, number)?;
-            Ok(kept)
-        }
+    let words = words::read(arguments.unwrap_or(&[]), kept, &mut image, &mut reading)?;
+    let room = out.get_mut(..words.out.unwrap_or(0))?;
+    let outcome = call.outcome(words, room)?;
+    if let Ok(res) = outcome {
+        kept.keep(call, res, room);
     }
-}
-
-fn is_remark(text: &[u8]) -> bool {
-    text.len() == 0 || text[0] == b'#'
-}
-
-// Makes the call of a line whose words are those that the call takes, and prints what it gave.
-fn run_call(
-    writer: &mut impl Write,
-    call: Call,
-    words: Words,
-    image: &[u8],
-    reading: &[u8],
-    out: &mut [u8],
-) -> io::Result<Outcome> {
-    let image_length = words.image;
-    let reading_length = words.reading;
-    let out_length = words.out;
-    if words.shape != call::shape(call) {
-        return Ok(Outcome::Malformed);
-    }
-    if image.len() < image_length {
-        return Ok(Outcome::Malformed);
-    }
-    if reading.len() < reading_length {
-        return Ok(Outcome::Malformed);
-    }
-    if out.len() < out_length {
-        return Ok(Outcome::Malformed);
-    }
-    let room = &mut out[0..out_length];
-    words::fill(room, 0xaa);
-    let answer = call::answer(
-        call,
-        &image[0..image_length],
-        &reading[0..reading_length],
-        room,
-    );
-    print::answer(writer, answer, room)?;
-    Ok(Outcome::Given(answer))
-}
-
-// Keeps what an accepted translation or extension wrote.
-fn keep(
-    call: Call,
-    answer: Answer,
-    out: &[u8],
-    program: &mut [u8],
-    extension: &mut [u8],
-    kept: Kept,
-) -> Kept {
-    if answer.number != 0 {
-        return kept;
-    }
-    match call {
-        Call::Translate | Call::TranslatePacked => Kept {
-            program: words::append(words::first(out, program_length(out)), program, 0),
-            extension: kept.extension,
-        },
-        Call::Extend => Kept {
-            program: kept.program,
-            extension: words::append(words::first(out, answer.result), extension, 0),
-        },
-        _ => kept,
-    }
-}
-
-// The bytes of a program image of either form: the total of its header.
-fn program_length(image: &[u8]) -> usize {
-    if image.len() < 16 {
-        return words::TOO_MANY;
-    }
-    wire::u32_at(image, 12)
+    Some((Answer::from(outcome), room))
 }

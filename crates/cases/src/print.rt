@@ -17,24 +17,12 @@ pub fn malformed(writer: &mut impl Write, number: usize) -> io::Result<()> {
 }
 
 // Number, place and result of an answer, and the bytes of a short output.
-pub fn answer(writer: &mut impl Write, given: Answer, out: &[u8]) -> io::Result<()> {
-    write!(writer, "{} {} {}", given.number, given.place, given.result)?;
+pub fn answer(writer: &mut impl Write, answer: Answer, out: &[u8]) -> io::Result<()> {
+    write!(writer, "{answer}")?;
     if out.len() <= MOST_PRINTED {
-        bytes(writer, out)?;
+        for byte in out {
+            write!(writer, " {byte:02x}")?;
+        }
     }
     writeln!(writer)
-}
-
-// A space and two digits for each byte.
-fn bytes(writer: &mut impl Write, out: &[u8]) -> io::Result<()> {
-    let mut i = 0;
-    while i < out.len() {
-        byte(writer, out[i])?;
-        i += 1;
-    }
-    Ok(())
-}
-
-fn byte(writer: &mut impl Write, value: u8) -> io::Result<()> {
-    write!(writer, " {value:02x}")
 }

@@ -1,221 +1,110 @@
 // The words of a line, and the bytes that they stand for.
-ghost use Rattle.std.specs.Prelude.{◌≡◌, ◌≤◌, length};
+ghost use Rattle.std.specs.Prelude.{◌≡◌, ◌≤◌, ◌<◌, ◌++◌, ◌∷◌, length, IfSome, MatchOption};
 
-use crate::call::{BOTH, NOTHING, OUTPUT, READING};
+use crate::kept::Kept;
 
-// More bytes than any buffer has: what a malformed word counts for.
-pub const TOO_MANY: usize = 100000;
-
-// Which arguments a line has besides the image, and how many bytes each argument has.
-#[derive(Drop)]
-pub struct Words {
-    pub shape: u8,
-    pub image: usize,
-    pub reading: usize,
-    pub out: usize,
+// The arguments of a line: the bytes of the image, those of the reading, and how long the output is.
+#[derive(Clone, Copy)]
+pub struct Words<'a> {
+    pub image: &'a [u8],
+    pub reading: Option<&'a [u8]>,
+    pub out: Option<usize>,
 }
 
-// Reads what follows the two letters of a call.
-pub fn read(
+// Reads what follows the letters of a call; none where it is malformed.
+pub fn read<'a>(
     text: &[u8],
-    program: &[u8],
-    extension: &[u8],
-    image: &mut [u8],
-    reading: &mut [u8],
-) -> Words {
-    let arrow = find(text, b'>');
-    let slash = find(&text[0..arrow], b'/');
-    let out = if arrow < text.len() {
-        room(after(text, arrow + 1))
-    } else {
-        0
-    };
-    Words {
-        shape: shape(slash < arrow, arrow < text.len()),
-        image: bytes(after(&text[0..slash], 2), program, extension, image),
-        reading: bytes(
-            after(&text[0..arrow], slash + 1),
-            program,
-            extension,
-            reading,
-        ),
-        out,
-    }
+    kept: &Kept,
+    image: &'a mut [u8],
+    reading: &'a mut [u8],
+) -> Option<Words<'a>> {
+    let (arguments, length) = cut(text, b'>');
+    let (image_words, reading_words) = cut(arguments, b'/');
+    Some(Words {
+        image: bytes(image_words, kept, image)?,
+        reading: match reading_words {
+            Some(words) => Some(bytes(words, kept, reading)?),
+            None => None,
+        },
+        out: match length {
+            Some(word) => Some(decimal(word.strip_prefix(b" ")?)?),
+            None => None,
+        },
+    })
 }
 
-fn shape(has_reading: bool, has_output: bool) -> u8 {
-    if has_reading && has_output {
-        BOTH
-    } else if has_reading {
-        READING
-    } else if has_output {
-        OUTPUT
-    } else {
-        NOTHING
-    }
-}
-
-// The length of the output: the number after a space.
-fn room(text: &[u8]) -> usize {
-    if text.len() == 0 || text[0] != b' ' {
-        return TOO_MANY;
-    }
-    decimal(after(text, 1))
-}
-
-// The index of the first such byte, or the length where there is none.
-pub fn find(text: &[u8], byte: u8) -> usize
-    ensures { result ≤ length text.now }
+// What stands before the first such byte, and what stands after it, if there is one.
+pub fn cut(text: &[u8], byte: u8) -> (&[u8], Option<&[u8]>)
+    ensures { MatchOption result.1 (result.0.now ≡ text.now) (λ after. text.now ≡ result.0.now ++ byte ∷ after.now) }
 {
-    let mut i = 0;
-    while i < text.len() {
-        if text[i] == byte {
-            return i;
-        }
-        i += 1;
+    match text.iter().position(|&found| found == byte) {
+        Some(at) => (&text[..at], Some(&text[at + 1..])),
+        None => (text, None),
     }
-    i
 }
 
-// What stands from an index on, if anything does.
-pub fn after(text: &[u8], from: usize) -> &[u8] {
-    if text.len() < from {
-        return &text[..0];
-    }
-    &text[from..]
-}
-
-// The first so many bytes, or none where there are fewer.
-pub fn first(bytes: &[u8], count: usize) -> &[u8] {
-    if bytes.len() < count {
-        return &bytes[..0];
-    }
-    &bytes[0..count]
-}
-
-// Puts the bytes of an argument at the start of `dest`, and gives how many they are.
-fn bytes(text: &[u8], program: &[u8], extension: &[u8], dest: &mut [u8]) -> usize {
+// Puts the bytes of an argument at the start of `dest`, and gives them; none where a word is malformed or there is no room.
+fn bytes<'a>(text: &[u8], kept: &Kept, dest: &'a mut [u8]) -> Option<&'a [u8]> {
     let mut count = 0;
-    let mut at = 0;
-    while at < text.len() {
-        let rest = &text[at..];
-        let size = find(rest, b' ');
-        count = put(&rest[0..size], program, extension, dest, count);
-        at = at + size + 1;
+    for word in text.split(|&byte| byte == b' ') {
+        count += put(word, kept, &mut dest[count..])?;
     }
-    count
+    Some(&dest[..count])
 }
 
-// Puts the bytes of one word after the first `count` bytes of `dest`, and gives how many there are now.
-fn put(word: &[u8], program: &[u8], extension: &[u8], dest: &mut [u8], count: usize) -> usize {
-    if is(word, b'p') {
-        append(program, dest, count)
-    } else if is(word, b'x') {
-        append(extension, dest, count)
-    } else {
-        repeat(word, dest, count)
-    }
-}
-
-fn is(word: &[u8], byte: u8) -> bool {
-    word.len() == 1 && word[0] == byte
-}
-
-// Puts bytes after the first `count` bytes of `dest`.
-pub fn append(bytes: &[u8], dest: &mut [u8], count: usize) -> usize {
-    if dest.len() < count {
-        return TOO_MANY;
-    }
-    if dest.len() - count < bytes.len() {
-        return TOO_MANY;
-    }
-    wire::put(&mut dest[count..], bytes);
-    count + bytes.len()
-}
-
-// Puts a byte as often as its word says after the first `count` bytes of `dest`.
-fn repeat(word: &[u8], dest: &mut [u8], count: usize) -> usize {
-    let more = times(word);
-    if dest.len() < count {
-        return TOO_MANY;
-    }
-    if dest.len() - count < more {
-        return TOO_MANY;
-    }
-    fill(&mut dest[count..count + more], byte(word));
-    count + more
-}
-
-pub fn fill(dest: &mut [u8], byte: u8) {
-    let mut i = 0;
-    while i < dest.len() {
-        dest[i] = byte;
-        i += 1;
+// Puts the bytes of one word at the start of `dest`, and gives how many they are.
+fn put(word: &[u8], kept: &Kept, dest: &mut [u8]) -> Option<usize>
+    ensures { IfSome result (λ count. count ≤ length dest.old) }
+{
+    match word {
+        [] => Some(0),
+        b"p" => copy(kept.program.bytes(), dest),
+        b"x" => copy(kept.extension.bytes(), dest),
+        [high, low] => repeat(byte(*high, *low)?, 1, dest),
+        [high, low, b'*', times @ ..] => repeat(byte(*high, *low)?, decimal(times)?, dest),
+        _ => None,
     }
 }
 
-// How often the byte of a word stands: no word is no byte.
-fn times(word: &[u8]) -> usize {
-    if word.len() == 0 {
-        return 0;
-    }
-    if word.len() < 2 {
-        return TOO_MANY;
-    }
-    if 15 < digit(word[0]) || 15 < digit(word[1]) {
-        return TOO_MANY;
-    }
-    if word.len() == 2 {
-        return 1;
-    }
-    if word[2] != b'*' {
-        return TOO_MANY;
-    }
-    decimal(after(word, 3))
+// Puts bytes at the start of `dest`, and gives how many they are.
+pub fn copy(bytes: &[u8], dest: &mut [u8]) -> Option<usize>
+    ensures { IfSome result (λ count. count ≤ length dest.old) }
+{
+    dest.get_mut(..bytes.len())?.copy_from_slice(bytes);
+    Some(bytes.len())
 }
 
-// The byte of a word that begins with two digits.
-fn byte(word: &[u8]) -> u8 {
-    if word.len() < 2 {
-        return 0;
-    }
-    digit(word[0]) % 16 * 16 + digit(word[1]) % 16
+// Puts a byte so many times at the start of `dest`, and gives how often.
+fn repeat(byte: u8, times: usize, dest: &mut [u8]) -> Option<usize>
+    ensures { IfSome result (λ count. count ≤ length dest.old) }
+{
+    dest.get_mut(..times)?.fill(byte);
+    Some(times)
 }
 
-// The value of a digit in hex, or 16.
-fn digit(character: u8) -> u8
-    ensures { result ≤ 16 }
+// The byte of two digits in hex.
+fn byte(high: u8, low: u8) -> Option<u8> {
+    Some(digit(high)? * 16 + digit(low)?)
+}
+
+// The value of a digit in hex, small letters alone.
+fn digit(character: u8) -> Option<u8>
+    ensures { IfSome result (λ value. value < 16) }
 {
     match character {
-        b'0'..=b'9' => character - b'0',
-        b'a'..=b'f' => character - b'a' + 10,
-        _ => 16,
+        b'0'..=b'9' => Some(character - b'0'),
+        b'a'..=b'f' => Some(character - b'a' + 10),
+        _ => None,
     }
 }
 
 // The number that a word is.
-fn decimal(word: &[u8]) -> usize {
-    if word.len() == 0 {
-        return TOO_MANY;
+fn decimal(word: &[u8]) -> Option<usize> {
+    if word.is_empty() {
+        return None;
     }
-    let mut value = 0;
-    let mut i = 0;
-    while i < word.len() {
-        let next = digit(word[i]);
-        if 9 < next {
-            return TOO_MANY;
-        }
-        if 9999 < value {
-            return TOO_MANY;
-        }
-        value = value * 10 + wide(next);
-        i += 1;
-    }
-    value
-}
-
-fn wide(byte: u8) -> usize
-    ensures { result ≡ byte }
-{
-    byte as usize
+    word.iter().try_fold(0usize, |value, &character| {
+        let digit = char::from(character).to_digit(10)?;
+        value.checked_mul(10)?.checked_add(digit as usize)
+    })
 }
