@@ -110,7 +110,7 @@ module _ (t : List ℕ) (ok : none (theory_rows t) ≡ true) where
   pub accepted-used : (k : ℕ) → k < node_count t → used (book_of t) k ≡ true
   accepted-used k l = not-false _ ((first-none _ _).0 (none_at (row13 t ∷ []) parts.1 0) k l)
 
--- Facts that tactics are given: of rows on the header,
+-- Facts that tactics are given, where no row on the header applies.
 module _ (t : List ℕ) (ok : none (header_rows t) ≡ true) where
   pub header_long : 16 ≤ length t
   header_long = (header-accepted t ok).long
@@ -118,40 +118,21 @@ module _ (t : List ℕ) (ok : none (header_rows t) ≡ true) where
   pub header_whole : length t ≡ image_length (node_count t) (root_count t) (pair_count t)
   header_whole = (header-accepted t ok).whole
 
-pub ruleset header_facts = (header_long, header_whole)
+  pub header_atoms : atom_count t ≤ most_atoms
+  header_atoms = (header-accepted t ok).few-atoms
 
--- of those of the form,
-module _ (t : List ℕ) (ok : none (form_rows t) ≡ true) where
-  pub form-header : none (header_rows t) ≡ true
-  unfolding form_rows
-  form-header = (none_split (header_rows t) (row6 t ∷ row7 t ∷ row15 t ∷ []) ok).0
+  pub header_nodes : node_count t ≤ most_nodes
+  header_nodes = (header-accepted t ok).few-nodes
 
-  pub form_long : 16 ≤ length t
-  form_long = (formed t ok).header.long
+  pub header_roots : root_count t ≤ most_roots
+  header_roots = (header-accepted t ok).few-roots
 
-pub ruleset form_facts = (form-header, form_long)
+  pub header_pairs : pair_count t ≤ most_pairs
+  header_pairs = (header-accepted t ok).few-pairs
 
--- and of all.
-module _ (t : List ℕ) (ok : none (theory_rows t) ≡ true) where
-  pub theory-header : none (header_rows t) ≡ true
-  theory-header = form-header t (parts t ok).0
+pub ruleset header_facts = (header_long, header_whole, header_atoms, header_nodes, header_roots, header_pairs)
 
-  pub theory_long : 16 ≤ length t
-  theory_long = (accepted t ok).header.long
-
-  pub theory_atoms : atom_count t ≤ most_atoms
-  theory_atoms = (accepted t ok).header.few-atoms
-
-  pub theory_nodes : node_count t ≤ most_nodes
-  theory_nodes = (accepted t ok).header.few-nodes
-
-  pub theory_roots : root_count t ≤ most_roots
-  theory_roots = (accepted t ok).header.few-roots
-
-  pub theory_pairs : pair_count t ≤ most_pairs
-  theory_pairs = (accepted t ok).header.few-pairs
-
-  pub theory_whole : length t ≡ image_length (node_count t) (root_count t) (pair_count t)
-  theory_whole = (accepted t ok).header.whole
-
-pub ruleset theory_facts = (theory-header, theory_long, theory_whole, theory_atoms, theory_nodes, theory_roots, theory_pairs)
+-- None does where none of all applies.
+pub theory_header : (t : List ℕ) → none (theory_rows t) ≡ true → none (header_rows t) ≡ true
+unfolding form_rows
+theory_header t ok = (none_split (header_rows t) (row6 t ∷ row7 t ∷ row15 t ∷ []) (parts t ok).0).0

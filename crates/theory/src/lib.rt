@@ -165,55 +165,33 @@ fn offsets_differ(theory: &[u8]) -> bool
     wire::u32_at(theory, 8) != 16 || wire::u32_at(theory, 12) != roots_start(theory)
 }
 
+// A theory image whose header no row refuses.
+#[derive(Clone, Copy)]
+struct Headed<'a> {
+    image: &'a [u8],
+    ghost good: { none (header_rows image.now) ≡ true },
+}
+
 // The rows on the header.
 #[tactic(auto, using(std::proofs::lemmas::Bool::Decides::nat_tests), unfolding(crate::specs::Rows::header_rows))]
-fn header(theory: &[u8]) -> Result<(), Refusal>
-    ensures { Decides (header_rows theory.now) result }
+fn header(image: &[u8]) -> Result<Headed<'_>, Refusal>
+    ensures decided { Decides (header_rows image.now) result }
+    ensures same { IfOk result (λ theory. theory.image.now ≡ image.now) }
 {
-    if theory.len() < 16 {
+    if image.len() < 16 {
         return Err(Refusal::TheoryHeader);
     }
-    if over_limits(theory) {
+    if over_limits(image) {
         return Err(Refusal::TheoryLimits);
     }
-    if offsets_differ(theory) {
+    if offsets_differ(image) {
         return Err(Refusal::TheoryOffsets);
     }
-    let wanted = pairs_start(theory) + pairs(theory) * 4;
-    if theory.len() != wanted {
+    let wanted = pairs_start(image) + pairs(image) * 4;
+    if image.len() != wanted {
         return Err(Refusal::TheoryLength { wanted });
     }
-    Ok(())
-}
-
-// The part of a theory with a good header that starts at its nodes, and has all of them.
-#[tactic(auto, using(crate::proofs::Accepted::header_facts))]
-fn node_part(theory: &[u8]) -> &[u8]
-    requires { none (header_rows theory.now) ≡ true }
-    ensures value { result.now ≡ node_section theory.now }
-    ensures room { node_count theory.now * 6 ≤ length result.now }
-{
-    &theory[16..]
-}
-
-// The part that starts at its roots, and has all of them.
-#[tactic(auto, using(crate::proofs::Accepted::header_facts))]
-fn root_part(theory: &[u8]) -> &[u8]
-    requires { none (header_rows theory.now) ≡ true }
-    ensures value { result.now ≡ root_section theory.now }
-    ensures room { root_count theory.now * 2 ≤ length result.now }
-{
-    &theory[roots_start(theory)..]
-}
-
-// The part that starts at its pairs, and has all of them.
-#[tactic(auto, using(crate::proofs::Accepted::header_facts))]
-fn pair_part(theory: &[u8]) -> &[u8]
-    requires { none (header_rows theory.now) ≡ true }
-    ensures value { result.now ≡ pair_section theory.now }
-    ensures room { pair_count theory.now * 4 ≤ length result.now }
-{
-    &theory[pairs_start(theory)..]
+    Ok(Headed { image })
 }
 
 // What left has to be below, in node k of a theory with so many atoms.
@@ -259,80 +237,11 @@ fn first_wrong_field(nodes: &[u8], k: usize, atoms: usize) -> Option<Field>
     None
 }
 
-// Row 6: the first node that breaks its row, and its first field that is wrong.
-#[tactic(auto, using(crate::proofs::Accepted::header_facts))]
-fn check_nodes(theory: &[u8]) -> Result<(), Refusal>
-    requires { none (header_rows theory.now) ≡ true }
-    ensures { Decides (row6 theory.now ∷ []) result }
-{
-    let section = node_part(theory);
-    let atoms = atoms(theory);
-    for k in 0..nodes(theory) {
-        if let Some(field) = first_wrong_field(section, k, atoms) {
-            return Err(Refusal::Node {
-                node: k as u16,
-                field,
-            });
-        }
-    }
-    Ok(())
-}
-
-// The index of the first root that is not below the number of nodes.
-fn first_root_not_below(roots: &[u8], nodes: usize, count: usize) -> Option<usize>
-    requires { count * 2 ≤ length roots.now }
-    ensures { result ≡ found (λ i. not (ltb (root_in roots.now i) nodes)) count }
-{
-    (0..count).find(|&i| nodes <= root_at(roots, i))
-}
-
-// Row 7: the first root that is not a node.
-#[tactic(auto, using(crate::proofs::Accepted::header_facts))]
-fn check_roots(theory: &[u8]) -> Result<(), Refusal>
-    requires { none (header_rows theory.now) ≡ true }
-    ensures { Decides (row7 theory.now ∷ []) result }
-{
-    match first_root_not_below(root_part(theory), nodes(theory), roots(theory)) {
-        Some(index) => Err(Refusal::Root { index }),
-        None => Ok(()),
-    }
-}
-
 // Whether a pair is of two of the atoms, the smaller first.
 fn pair_fits(pair: Pair, atoms: usize) -> bool
     ensures { result ≡ pair_fits atoms pair }
 {
     pair.first < pair.second && pair.second < atoms
-}
-
-// The index of the first pair that is not.
-fn first_bad_pair(pairs: &[u8], atoms: usize, count: usize) -> Option<usize>
-    requires { count * 4 ≤ length pairs.now }
-    ensures { result ≡ found (λ i. not (pair_fits atoms (pair_in pairs.now i))) count }
-{
-    (0..count).find(|&i| !pair_fits(pair_at(pairs, i), atoms))
-}
-
-// Row 15: the first pair that is not of two atoms, the smaller first.
-#[tactic(auto, using(crate::proofs::Accepted::header_facts))]
-fn check_pairs(theory: &[u8]) -> Result<(), Refusal>
-    requires { none (header_rows theory.now) ≡ true }
-    ensures { Decides (row15 theory.now ∷ []) result }
-{
-    match first_bad_pair(pair_part(theory), atoms(theory), pairs(theory)) {
-        Some(index) => Err(Refusal::Pair { index }),
-        None => Ok(()),
-    }
-}
-
-// The rows that leave a well-formed book: the header, then the nodes, then the roots, then the pairs.
-fn form(theory: &[u8]) -> Result<(), Refusal>
-    ensures { Decides (form_rows theory.now) result }
-{
-    header(theory)?;
-    check_nodes(theory)?;
-    check_roots(theory)?;
-    check_pairs(theory)
 }
 
 // Marks the operands of a node.
@@ -350,30 +259,6 @@ fn mark_operands(node: Node, marks: &mut [u8])
     }
 }
 
-// Marks the operands of each of the first `count` nodes.
-#[tactic(auto, using(crate::proofs::Used::mark_steps))]
-fn mark_nodes(nodes: &[u8], count: usize, marks: &mut [u8])
-    requires count_in_bounds { count * 6 ≤ length nodes.now }
-    requires by_index { (k : ℕ) → k < count → all_below (length marks.old) (operands (node_in nodes.now k)) ≡ true }
-    ensures { marks.new ≡ marked (all_operands (up_to (node_in nodes.now) count)) marks.old }
-{
-    for k in 0..count {
-        mark_operands(node_at(nodes, k), marks);
-    }
-}
-
-// Marks each of the first `count` roots.
-#[tactic(auto, using(crate::proofs::Used::mark_steps))]
-fn mark_roots(roots: &[u8], count: usize, marks: &mut [u8])
-    requires count_in_bounds { count * 2 ≤ length roots.now }
-    requires by_index { (i : ℕ) → i < count → root_in roots.now i < length marks.old }
-    ensures { marks.new ≡ marked (up_to (root_in roots.now) count) marks.old }
-{
-    for i in 0..count {
-        marks[root_at(roots, i)] = 1;
-    }
-}
-
 // The first of so many nodes that is not marked.
 fn first_unmarked(marks: &[u8], count: usize) -> Option<usize>
     requires { count ≤ length marks.now }
@@ -382,17 +267,164 @@ fn first_unmarked(marks: &[u8], count: usize) -> Option<usize>
     marks[..count].iter().position(|mark| *mark == 0)
 }
 
-// The first node of a well-formed book that is not used. What is used is marked in `marks`, which are 0 before.
-#[tactic(auto, using(crate::proofs::Accepted::form_facts))]
-fn first_unused(theory: &[u8], marks: &mut [u8]) -> Option<usize>
-    requires theory_value { none (form_rows theory.now) ≡ true }
-    requires marks_value { marks.old ≡ replicate most_nodes 0 }
-    ensures { result ≡ found (λ k. not (used (book_of theory.now) k)) (node_count theory.now) }
+impl<'a> Headed<'a> {
+    // A, N, R and P.
+    #[tactic(auto, using(crate::proofs::Accepted::header_facts))]
+    fn atoms(&self) -> usize
+        ensures { (result ≡ atom_count self.now.image.now) × (result ≤ most_atoms) }
+    {
+        atoms(self.image)
+    }
+
+    #[tactic(auto, using(crate::proofs::Accepted::header_facts))]
+    fn nodes(&self) -> usize
+        ensures { (result ≡ node_count self.now.image.now) × (result ≤ most_nodes) }
+    {
+        nodes(self.image)
+    }
+
+    #[tactic(auto, using(crate::proofs::Accepted::header_facts))]
+    fn roots(&self) -> usize
+        ensures { (result ≡ root_count self.now.image.now) × (result ≤ most_roots) }
+    {
+        roots(self.image)
+    }
+
+    #[tactic(auto, using(crate::proofs::Accepted::header_facts))]
+    fn pairs(&self) -> usize
+        ensures { (result ≡ pair_count self.now.image.now) × (result ≤ most_pairs) }
+    {
+        pairs(self.image)
+    }
+
+    // The part of the image that starts at its nodes, and has all of them.
+    #[tactic(auto, using(crate::proofs::Accepted::header_facts))]
+    fn node_section(&self) -> &'a [u8]
+        ensures value { result.now ≡ node_section self.now.image.now }
+        ensures room { node_count self.now.image.now * 6 ≤ length result.now }
+    {
+        &self.image[16..]
+    }
+
+    // The part that starts at its roots, and has all of them.
+    #[tactic(auto, using(crate::proofs::Accepted::header_facts))]
+    fn root_section(&self) -> &'a [u8]
+        ensures value { result.now ≡ root_section self.now.image.now }
+        ensures room { root_count self.now.image.now * 2 ≤ length result.now }
+    {
+        &self.image[roots_start(self.image)..]
+    }
+
+    // The part that starts at its pairs, and has all of them.
+    #[tactic(auto, using(crate::proofs::Accepted::header_facts))]
+    fn pair_section(&self) -> &'a [u8]
+        ensures value { result.now ≡ pair_section self.now.image.now }
+        ensures room { pair_count self.now.image.now * 4 ≤ length result.now }
+    {
+        &self.image[pairs_start(self.image)..]
+    }
+
+    // Row 6: the first node that breaks its row, and its first field that is wrong.
+    fn check_nodes(&self) -> Result<(), Refusal>
+        ensures { Decides (row6 self.now.image.now ∷ []) result }
+    {
+        let section = self.node_section();
+        let atoms = self.atoms();
+        for node in 0..self.nodes() {
+            if let Some(field) = first_wrong_field(section, node, atoms) {
+                return Err(Refusal::Node {
+                    node: node as u16,
+                    field,
+                });
+            }
+        }
+        Ok(())
+    }
+
+    // The index of the first root that is not a node.
+    fn first_root_not_below(&self) -> Option<usize>
+        ensures { result ≡ found (λ i. not (ltb (root_in (root_section self.now.image.now) i) (node_count self.now.image.now))) (root_count self.now.image.now) }
+    {
+        let section = self.root_section();
+        let nodes = self.nodes();
+        (0..self.roots()).find(|&i| nodes <= root_at(section, i))
+    }
+
+    // Row 7.
+    fn check_roots(&self) -> Result<(), Refusal>
+        ensures { Decides (row7 self.now.image.now ∷ []) result }
+    {
+        match self.first_root_not_below() {
+            Some(index) => Err(Refusal::Root { index }),
+            None => Ok(()),
+        }
+    }
+
+    // The index of the first pair that is not of two atoms, the smaller first.
+    fn first_bad_pair(&self) -> Option<usize>
+        ensures { result ≡ found (λ i. not (pair_fits (atom_count self.now.image.now) (pair_in (pair_section self.now.image.now) i))) (pair_count self.now.image.now) }
+    {
+        let section = self.pair_section();
+        let atoms = self.atoms();
+        (0..self.pairs()).find(|&i| !pair_fits(pair_at(section, i), atoms))
+    }
+
+    // Row 15.
+    fn check_pairs(&self) -> Result<(), Refusal>
+        ensures { Decides (row15 self.now.image.now ∷ []) result }
+    {
+        match self.first_bad_pair() {
+            Some(index) => Err(Refusal::Pair { index }),
+            None => Ok(()),
+        }
+    }
+
+    // Marks the operands of each node.
+    #[tactic(auto, using(crate::proofs::Used::mark_steps))]
+    fn mark_nodes(&self, marks: &mut [u8])
+        requires { (k : ℕ) → k < node_count self.now.image.now → all_below (length marks.old) (operands (node_in (node_section self.now.image.now) k)) ≡ true }
+        ensures { marks.new ≡ marked (all_operands (up_to (node_in (node_section self.now.image.now)) (node_count self.now.image.now))) marks.old }
+    {
+        let section = self.node_section();
+        for k in 0..self.nodes() {
+            mark_operands(node_at(section, k), marks);
+        }
+    }
+
+    // Marks each root.
+    #[tactic(auto, using(crate::proofs::Used::mark_steps))]
+    fn mark_roots(&self, marks: &mut [u8])
+        requires { (i : ℕ) → i < root_count self.now.image.now → root_in (root_section self.now.image.now) i < length marks.old }
+        ensures { marks.new ≡ marked (up_to (root_in (root_section self.now.image.now)) (root_count self.now.image.now)) marks.old }
+    {
+        let section = self.root_section();
+        for i in 0..self.roots() {
+            marks[root_at(section, i)] = 1;
+        }
+    }
+
+    // The first node of a well-formed book that is not used. What is used is marked in `marks`, which are 0 before.
+    fn first_unused(&self, marks: &mut [u8]) -> Option<usize>
+        requires form { none (form_rows self.now.image.now) ≡ true }
+        requires marks_value { marks.old ≡ replicate most_nodes 0 }
+        ensures { result ≡ found (λ k. not (used (book_of self.now.image.now) k)) (node_count self.now.image.now) }
+    {
+        self.mark_nodes(marks);
+        self.mark_roots(marks);
+        first_unmarked(marks, self.nodes())
+    }
+}
+
+// The rows that leave a well-formed book: the header, then the nodes, then the roots, then the pairs.
+fn form(image: &[u8]) -> Result<Headed<'_>, Refusal>
+    ensures decided { Decides (form_rows image.now) result }
+    ensures same { IfOk result (λ theory. theory.image.now ≡ image.now) }
 {
-    let count = nodes(theory);
-    mark_nodes(node_part(theory), count, marks);
-    mark_roots(root_part(theory), roots(theory), marks);
-    first_unmarked(marks, count)
+    let theory = header(image)?;
+    theory.check_nodes()?;
+    theory.check_roots()?;
+    theory.check_pairs()?;
+    Ok(theory)
 }
 
 // A theory image that no row refuses.
@@ -408,8 +440,8 @@ pub fn check_with<'a>(image: &'a [u8], marks: &mut [u8]) -> Result<Theory<'a>, R
     ensures decided { Decides (theory_rows image.now) result }
     ensures same { IfOk result (λ theory. theory.image.now ≡ image.now) }
 {
-    form(image)?;
-    match first_unused(image, marks) {
+    let formed = form(image)?;
+    match formed.first_unused(marks) {
         Some(node) => Err(Refusal::UnusedNode { node }),
         None => Ok(Theory { image }),
     }
@@ -448,33 +480,21 @@ fn node_value(node: Node, reading: &[u8], earlier: &[u8]) -> Value
     }
 }
 
-// Writes the values of the first `count` nodes over the start of `values`.
-fn write_values(nodes: &[u8], reading: &[u8], values: &mut [u8], count: usize)
-    requires count_in_bounds { (count * 6 ≤ length nodes.now) × (count ≤ length values.old) }
-    requires by_index { (k : ℕ) → k < count → fits (length reading.now) k (node_in nodes.now k) ≡ true }
-    ensures { values.new ≡ over (map number (values_to (reading_of reading.now) nodes.now count)) values.old }
-{
-    for k in 0..count {
-        let value = node_value(node_at(nodes, k), reading, &values[..k]);
-        values[k] = u8::from(value);
-    }
-}
-
-// Whether each of the first `count` roots has the value 2.
-fn roots_hold(roots: &[u8], values: &[u8], count: usize) -> bool
-    requires count_in_bounds { count * 2 ≤ length roots.now }
-    requires by_index { (i : ℕ) → i < count → root_in roots.now i < length values.now }
-    ensures { result ≡ list_all (λ i. eqb (get_or values.now (root_in roots.now i) 0) 2) (range_with_len 0 count) }
-{
-    (0..count).all(|i| values[root_at(roots, i)] == 2)
-}
-
 // Whether a reading satisfies a pair: its formula is 2 exactly if the smaller of its two values is 0.
 fn pair_holds(pair: Pair, reading: &[u8]) -> bool
     requires { pair_fits (length reading.now) pair ≡ true }
     ensures { result ≡ true_here (value (reading_of reading.now) (pair_formula pair)) }
 {
     value_at(reading, pair.first).and(value_at(reading, pair.second)) == Value::NEITHER
+}
+
+// Whether each of the first `count` roots has the value 2, by the values of nodes.
+fn roots_hold(roots: &[u8], values: &[u8], count: usize) -> bool
+    requires count_in_bounds { count * 2 ≤ length roots.now }
+    requires by_index { (i : ℕ) → i < count → root_in roots.now i < length values.now }
+    ensures { result ≡ list_all (λ i. eqb (get_or values.now (root_in roots.now i) 0) 2) (range_with_len 0 count) }
+{
+    (0..count).all(|i| values[root_at(roots, i)] == 2)
 }
 
 // Whether a reading satisfies each of the first `count` pairs.
@@ -486,50 +506,60 @@ fn pairs_hold(pairs: &[u8], reading: &[u8], count: usize) -> bool
     (0..count).all(|i| pair_holds(pair_at(pairs, i), reading))
 }
 
-#[tactic(auto, using(crate::proofs::Accepted::theory_facts))]
 impl<'a> Theory<'a> {
+    // The same image, of which the header alone is known.
+    #[tactic(auto, using(crate::proofs::Accepted::theory_header))]
+    fn headed(&self) -> Headed<'a>
+        ensures { result.image.now ≡ self.now.image.now }
+    {
+        Headed { image: self.image }
+    }
+
     // A, N, R and P.
     pub fn atoms(&self) -> usize
         ensures { (result ≡ atom_count self.now.image.now) × (result ≤ most_atoms) }
     {
-        atoms(self.image)
+        self.headed().atoms()
     }
 
     pub fn nodes(&self) -> usize
         ensures { (result ≡ node_count self.now.image.now) × (result ≤ most_nodes) }
     {
-        nodes(self.image)
+        self.headed().nodes()
     }
 
     pub fn roots(&self) -> usize
         ensures { (result ≡ root_count self.now.image.now) × (result ≤ most_roots) }
     {
-        roots(self.image)
+        self.headed().roots()
     }
 
     pub fn pairs(&self) -> usize
         ensures { (result ≡ pair_count self.now.image.now) × (result ≤ most_pairs) }
     {
-        pairs(self.image)
+        self.headed().pairs()
     }
 
     // The parts of the image that start at the nodes, at the roots and at the pairs.
     pub fn node_section(&self) -> &'a [u8]
-        ensures { result.now ≡ node_section self.now.image.now }
+        ensures value { result.now ≡ node_section self.now.image.now }
+        ensures room { node_count self.now.image.now * 6 ≤ length result.now }
     {
-        node_part(self.image)
+        self.headed().node_section()
     }
 
     pub fn root_section(&self) -> &'a [u8]
-        ensures { result.now ≡ root_section self.now.image.now }
+        ensures value { result.now ≡ root_section self.now.image.now }
+        ensures room { root_count self.now.image.now * 2 ≤ length result.now }
     {
-        root_part(self.image)
+        self.headed().root_section()
     }
 
     pub fn pair_section(&self) -> &'a [u8]
-        ensures { result.now ≡ pair_section self.now.image.now }
+        ensures value { result.now ≡ pair_section self.now.image.now }
+        ensures room { pair_count self.now.image.now * 4 ≤ length result.now }
     {
-        pair_part(self.image)
+        self.headed().pair_section()
     }
 
     // Writes the value of each node under a reading, over the start of `values`.
@@ -538,7 +568,11 @@ impl<'a> Theory<'a> {
         requires theory_in_bounds { node_count self.now.image.now ≤ length values.old }
         ensures { values.new ≡ over (map number (node_values (book_of self.now.image.now) (reading_of reading.now))) values.old }
     {
-        write_values(self.node_section(), reading, values, self.nodes());
+        let section = self.node_section();
+        for k in 0..self.nodes() {
+            let value = node_value(node_at(section, k), reading, &values[..k]);
+            values[k] = u8::from(value);
+        }
     }
 
     // Whether a reading satisfies the theory: its nodes' values go to `scratch`, where each root is looked up, and then each pair is looked up in the reading.

@@ -10,7 +10,7 @@ use Rattle.refusal.proofs.Table.{reached_first}
 use Rattle.refusal.proofs.First.{first_here, first_on, first-refused}
 use Rattle.theory.specs.Image.{atom_count, node_count, node_section, first_wrong, wrong_place, breaks}
 use Rattle.theory.specs.Rows.{row6}
-use Rattle.theory.proofs.check_nodes.Goals as goal
+use Rattle.theory.proofs.Headed.check_nodes.Goals as goal
 
 field_below : (f : Field) → field_number f < 4
 field_below Kind = omega arith
@@ -32,8 +32,8 @@ module _ (t s : List ℕ) (A N k : ℕ) (s-is : s ≡ node_section t) (A-is : A 
 
 pub returns-in-Some : goal.returns-in-Some
 returns-in-Some c =
-    refuses c.args.theory.now _ _ _ _ c.node_part-section.ensures.value c.atoms-atoms.ensures.0 c.nodes-k-end.ensures.0 c.loop-k.invariant c.loop-k-test.true c.in-Some.field c.in-Some.ensures
+    refuses c.args.self.now.image.now _ _ _ _ c.node_section-section.ensures.value c.atoms-atoms.ensures.0 c.nodes-node-end.ensures.0 c.loop-node.invariant c.loop-node-test.true c.in-Some.field c.in-Some.ensures
 
-pub loop-k-preserved : goal.loop-k-preserved
-loop-k-preserved c =
-    goes_on c.args.theory.now _ _ _ _ c.node_part-section.ensures.value c.atoms-atoms.ensures.0 c.nodes-k-end.ensures.0 c.loop-k.invariant c.loop-k-test.true c.in_default.ensures
+pub loop-node-preserved : goal.loop-node-preserved
+loop-node-preserved c =
+    goes_on c.args.self.now.image.now _ _ _ _ c.node_section-section.ensures.value c.atoms-atoms.ensures.0 c.nodes-node-end.ensures.0 c.loop-node.invariant c.loop-node-test.true c.in_default.ensures

@@ -2,7 +2,7 @@
 use Rattle.std.proofs.Common.{◌≤◌}
 use Rattle.refusal.specs.First.{first}
 use Rattle.theory.specs.Image.{atom_count, node_count, node_section, breaks}
-use Rattle.theory.proofs.check_nodes.Given as goal
+use Rattle.theory.proofs.Headed.check_nodes.Given as goal
 
-abbrev pub invariant-loop-k : goal.invariant-loop-k
-invariant-loop-k l = l.k ≤ first (breaks (atom_count l.theory) (node_section l.theory)) (node_count l.theory)
+abbrev pub invariant-loop-node : goal.invariant-loop-node
+invariant-loop-node l = l.node ≤ first (breaks (atom_count l.self.image.now) (node_section l.self.image.now)) (node_count l.self.image.now)

@@ -9,7 +9,7 @@ use Rattle.theory.specs.Used.{all_operands, used}
 use Rattle.theory.specs.Marks.{marked}
 use Rattle.theory.proofs.Used.{operands-within, unmarked_unused}
 use Rattle.theory.proofs.Accepted.{formed, kept_fits}
-use Rattle.theory.proofs.first_unused.Goals as goal
+use Rattle.theory.proofs.Headed.first_unused.Goals as goal
 
 -- There is a mark for each node.
 marks-long : {marks : List ℕ} → marks ≡ replicate most_nodes 0 → length marks ≡ most_nodes
@@ -22,21 +22,21 @@ unused : (t : List ℕ) → node_count t ≤ most_nodes
 unfolding book_of
 unused t few = unmarked_unused (all_operands (up_to (node_in (node_section t)) (node_count t))) (up_to (root_in (root_section t)) (root_count t)) most_nodes (node_count t) few
 
-pub mark_nodes-requires-clause-by_index : goal.mark_nodes-requires-clause-by_index
-mark_nodes-requires-clause-by_index c =
-    let t = c.args.theory.now in
-    let a = formed t c.requires.theory_value in
-    λ k l. rw c.node_part.ensures.value (operands-within (atom_count t) k _ (node_in (node_section t) k) (omega (arith, a.header, marks-long c.requires.marks_value)) (kept_fits (atom_count t) (node_section t) k (a.nodes-keep k (omega arith))))
+pub mark_nodes-requires : goal.mark_nodes-requires
+mark_nodes-requires c =
+    let t = c.args.self.now.image.now in
+    let a = formed t c.requires.form in
+    λ k l. operands-within (atom_count t) k _ (node_in (node_section t) k) (omega (arith, a.header, marks-long c.requires.marks_value)) (kept_fits (atom_count t) (node_section t) k (a.nodes-keep k l))
 
-pub mark_roots-requires-clause-by_index : goal.mark_roots-requires-clause-by_index
-mark_roots-requires-clause-by_index c =
-    let a = formed c.args.theory.now c.requires.theory_value in
-    λ i l. rw c.root_part.ensures.value (omega (arith, a.roots-below i (omega arith), a.header, marks-long c.requires.marks_value))
+pub mark_roots-requires : goal.mark_roots-requires
+mark_roots-requires c =
+    let a = formed c.args.self.now.image.now c.requires.form in
+    λ i l. omega (arith, a.roots-below i l, a.header, marks-long c.requires.marks_value)
 
 pub first_unmarked-requires : goal.first_unmarked-requires
-first_unmarked-requires c = omega (arith, (formed c.args.theory.now c.requires.theory_value).header, marks-long c.requires.marks_value)
+first_unmarked-requires c = omega (arith, (formed c.args.self.now.image.now c.requires.form).header, marks-long c.requires.marks_value)
 
 pub returns : goal.returns
 returns c =
-    rw (c.first_unmarked.ensures, c.mark_roots.ensures, c.mark_nodes.ensures, c.requires.marks_value, c.node_part.ensures.value, c.root_part.ensures.value, c.nodes-count.ensures.0, c.roots.ensures.0)
-    (unused c.args.theory.now (formed c.args.theory.now c.requires.theory_value).header.few-nodes)
+    rw (c.first_unmarked.ensures, c.mark_roots.ensures, c.mark_nodes.ensures, c.requires.marks_value, c.nodes.ensures.0)
+    (unused c.args.self.now.image.now (formed c.args.self.now.image.now c.requires.form).header.few-nodes)
