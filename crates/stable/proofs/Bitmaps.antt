@@ -1,4 +1,4 @@
--- A byte holds eight bits of a test, each at its place, since a number's bits are the atoms of its set. By induction on the set.
+-- A byte holds eight bits of a test, each at its place, since a number's bits are the atoms of its set. By induction on the set. Assumes nothing.
 use mathlib.Core.Path.{◌≡◌, refl, ap, ◌∙◌}
 use mathlib.Core.Bool.{Bool, true, false, cond}
 use mathlib.Core.List.{List, [], ◌∷◌, ◌++◌}

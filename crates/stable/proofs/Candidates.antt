@@ -1,4 +1,4 @@
--- A candidate's bytes are those of the reading of its set, since each of them is 0 or 2. By induction on the bytes.
+-- A candidate's bytes are those of the reading of its set, since each of them is 0 or 2. By induction on the bytes. Assumes nothing.
 use mathlib.Core.Path.{◌≡◌, refl, sym, ap, ap₂, ◌∙◌}
 use mathlib.Core.Bool.{Bool, true, false, cond, true≢false}
 use mathlib.Core.List.{List, [], ◌∷◌, ◌++◌, map}

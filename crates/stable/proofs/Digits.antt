@@ -1,4 +1,4 @@
--- The lowest bit of a number and what is left of it, each by the two cases of the bit.
+-- The lowest bit of a number and what is left of it, each by the two cases of the bit. Assumes nothing.
 use mathlib.Core.Path.{◌≡◌, sym}
 use mathlib.Core.Bool.{Bool, true, false, cond}
 use Prim.Native.Nat.{ℕ, ◌+◌, ◌*◌, ◌/◌, ◌%◌, ◌≤◌}

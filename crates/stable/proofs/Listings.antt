@@ -1,4 +1,4 @@
--- The listing's numbers are those below 2 to the n whose set is an answer set, in ascending order: `all_sets` has the sets of 0, 1, .. in turn.
+-- The listing's numbers are those below 2 to the n whose set is an answer set, in ascending order: `all_sets` has the sets of 0, 1, .. in turn. Assumes nothing.
 use mathlib.Core.Path.{◌≡◌, refl, sym, ap, ap₂, ◌∙◌}
 use mathlib.Core.Logic.{⊎_elim}
 use mathlib.Core.Bool.{Bool, true, false, cond}

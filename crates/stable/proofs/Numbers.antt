@@ -1,4 +1,4 @@
--- A set of atoms below n is a number below 2 to the n, by induction on n: atom 0 is the lowest bit. So the list of all sets is the sets of 0, 1, .. in turn.
+-- A set of atoms below n is a number below 2 to the n, by induction on n: atom 0 is the lowest bit. So the list of all sets is the sets of 0, 1, .. in turn. Assumes nothing.
 use mathlib.Core.Path.{◌≡◌, refl, sym, ap, ◌∙◌}
 use mathlib.Core.Bool.{true, false}
 use mathlib.Core.List.{List, [], ◌∷◌, ◌++◌, append_assoc}

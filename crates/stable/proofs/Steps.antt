@@ -1,4 +1,4 @@
--- From the reading of one subset to that of the next: the bit of each atom stands at the atom's place. By induction on the set.
+-- From the reading of one subset to that of the next: the bit of each atom stands at the atom's place. By induction on the set. Assumes nothing.
 use mathlib.Core.Path.{◌≡◌, refl, sym, ap, ap₂, ◌∙◌}
 use mathlib.Core.Bool.{Bool, true, false, cond}
 use mathlib.Core.List.{List, [], ◌∷◌, ◌++◌}

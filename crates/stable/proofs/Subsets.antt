@@ -1,4 +1,4 @@
--- The proper subsets of T are those with a number below the full one, by induction on T: each atom of T takes one bit.
+-- The proper subsets of T are those with a number below the full one, by induction on T: each atom of T takes one bit. Assumes nothing.
 use mathlib.Core.Path.{◌≡◌, refl, sym, ap, ap₂, subst, ◌∙◌}
 use mathlib.Core.Logic.{◌↔◌}
 use mathlib.Core.Bool.{true, false, not, cond, ◌||◌, false≢true, or-true, or-false}

@@ -1,5 +1,5 @@
 -- An implementation note, on which no promise rests: the search for the listing keeps a bitmap with a bit for each set of atoms, by its number.
-use Rattle.std.specs.Prelude.{◌≡◌, Bool, true, cond, List, [], ◌∷◌, ◌++◌, ℕ, zero, suc, ◌+◌, ◌/◌, ◌%◌, ◌^◌, ◌≤◌, length, get_or}
+use Rattle.std.specs.Prelude.{◌≡◌, Bool, cond, List, [], ◌∷◌, ◌++◌, ℕ, zero, suc, ◌+◌, ◌/◌, ◌%◌, ◌^◌, ◌≤◌, length, get_or}
 use Rattle.wire.specs.Sequence.{up_to}
 use Rattle.refusal.specs.Limits.{most_nodes, most_listed}
 use Rattle.logic.specs.AnswerSet.{is_answer_set}

@@ -5,7 +5,7 @@ ghost use Rattle.std.specs.Prelude.{◌≡◌, true, ℕ, List, ◌+◌, ◌*◌
 ghost use Rattle.std.specs.List.{range_with_len};
 ghost use Rattle.wire.specs.Wire.{over, all_below};
 ghost use Rattle.refusal.specs.Limits.{most_nodes, most_b, most_true};
-ghost use Rattle.refusal.specs.Table.{none, answer};
+ghost use Rattle.refusal.specs.Table.{answer};
 ghost use Rattle.refusal.specs.Refusal.{answer_of};
 ghost use Rattle.refusal.specs.Rows.{count_true};
 ghost use Rattle.logic.specs.Formula.{Formula, reading_of, satisfies};

@@ -1,5 +1,5 @@
 -- `list_sets` tests the rows in order, and writes only where none applies: the bitmap has the answer sets' numbers. Assumes nothing.
-use Rattle.std.proofs.Common.{◌≡◌, ap, ◌∙◌, Bool, ℕ, List, ◌*◌, ◌^◌, ◌≤◌, ◌<◌, arith, length, pow_mono}
+use Rattle.std.proofs.Common.{◌≡◌, ap, ◌∙◌, ℕ, List, ◌*◌, ◌^◌, ◌≤◌, ◌<◌, arith, length, pow_mono}
 use Rattle.std.specs.List.{range_with_len, count_by}
 use Rattle.refusal.specs.Limits.{most_listed}
 use Rattle.refusal.specs.Table.{refused, accepted}

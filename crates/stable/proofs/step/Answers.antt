@@ -1,6 +1,5 @@
 -- A byte 1 at a place ends the carry, and a byte 2 passes it on; where no place is left, the subsets begin anew. Assumes nothing.
-use Rattle.std.proofs.Common.{◌≡◌, ap, ◌∙◌, ◌<◌, ℕ, List, arith, length, get_or}
-use Rattle.wire.specs.Wire.{all_below}
+use Rattle.std.proofs.Common.{◌≡◌, ap, ◌<◌, ℕ, List, arith, length, get_or}
 use Rattle.wire.proofs.Laws.{all_below_at}
 use Rattle.logic.specs.Atoms.{Atoms}
 use Rattle.stable.specs.Subset.{places_of}
