@@ -15,11 +15,11 @@ use Rattle.logic.proofs.Bools.{&&_join, ||-split}
 use Rattle.wire.specs.Sequence.{up_to}
 use Rattle.wire.proofs.Laws.{all_below-each}
 use Rattle.wire.proofs.Sequence.{length-up_to, get_d_up_to}
-use Rattle.theory.specs.Book.{Node, WellFormed, left_fits, right_fits, fits, pair_fits}
+use Rattle.theory.specs.Book.{Kind, False, True, Atom, Not, And, Or, Implies, Node, WellFormed, left_limit, right_limit, left_fits, right_fits, fits, pair_fits}
 use Rattle.theory.specs.Image.{atom_count, node_count, root_count, pair_count, image_length, node_section, root_section, pair_section, node_in, field_wrong, breaks, root_in, pair_in, book_of}
 use Rattle.theory.specs.Used.{used}
 use Rattle.theory.specs.Rows.{row6, row7, row13, row15, header_rows, form_rows, theory_rows}
-use Rattle.theory.proofs.Books.{all_fit-each}
+use Rattle.theory.proofs.Books.{fits-left, fits-right, all_fit-each}
 use Rattle.theory.proofs.PairLaws.{pairs_fit-up_to}
 
 -- What the rows on the header leave.
@@ -109,6 +109,26 @@ module _ (t : List ℕ) (ok : none (theory_rows t) ≡ true) where
 
   pub accepted-used : (k : ℕ) → k < node_count t → used (book_of t) k ≡ true
   accepted-used k l = not-false _ ((first-none _ _).0 (none_at (row13 t ∷ []) parts.1 0) k l)
+
+-- What left and right have to be below is no more than an image has, of atoms or of nodes.
+limits_small : (A k : ℕ) (kind : Kind) → A ≤ most_nodes → k < most_nodes → (left_limit A k kind ≤ most_nodes) × (right_limit k kind ≤ most_nodes)
+limits_small A k False h l = (omega arith, omega arith)
+limits_small A k True h l = (omega arith, omega arith)
+limits_small A k Atom h l = (h, omega arith)
+limits_small A k Not h l = (omega arith, omega arith)
+limits_small A k And h l = (omega arith, omega arith)
+limits_small A k Or h l = (omega arith, omega arith)
+limits_small A k Implies h l = (omega arith, omega arith)
+
+-- So left and right are small.
+pub operands_small : (t : List ℕ) → none (theory_rows t) ≡ true → (k : ℕ) → k < node_count t
+    → ((node_in (node_section t) k).left < most_nodes) × ((node_in (node_section t) k).right < most_nodes)
+operands_small t ok k l =
+    let a = accepted t ok in
+    let n = node_in (node_section t) k in
+    let fit = kept_fits (atom_count t) (node_section t) k (a.nodes-keep k l) in
+    let small = limits_small (atom_count t) k n.kind a.header.few-atoms (omega (arith, a.header)) in
+    (omega (arith, small, fits-left (atom_count t) k n fit), omega (arith, small, fits-right (atom_count t) k n fit))
 
 -- Facts that tactics are given, where no row on the header applies.
 module _ (t : List ℕ) (ok : none (header_rows t) ≡ true) where

@@ -562,15 +562,37 @@ impl<'a> Theory<'a> {
         self.headed().pair_section()
     }
 
+    // Node k, root i and pair i.
+    pub fn node(&self, k: usize) -> Node
+        requires { k < node_count self.now.image.now }
+        ensures value { result ≡ node_in (node_section self.now.image.now) k }
+        ensures bound { (result.left < most_nodes) × (result.right < most_nodes) }
+    {
+        node_at(self.node_section(), k)
+    }
+
+    pub fn root(&self, i: usize) -> usize
+        requires { i < root_count self.now.image.now }
+        ensures { (result ≡ root_in (root_section self.now.image.now) i) × (result < node_count self.now.image.now) }
+    {
+        root_at(self.root_section(), i)
+    }
+
+    pub fn pair(&self, i: usize) -> Pair
+        requires { i < pair_count self.now.image.now }
+        ensures { result ≡ pair_in (pair_section self.now.image.now) i }
+    {
+        pair_at(self.pair_section(), i)
+    }
+
     // Writes the value of each node under a reading, over the start of `values`.
     pub fn values(&self, reading: &[u8], values: &mut [u8])
         requires reading_len { length reading.now ≡ atom_count self.now.image.now }
         requires theory_in_bounds { node_count self.now.image.now ≤ length values.old }
         ensures { values.new ≡ over (map number (node_values (book_of self.now.image.now) (reading_of reading.now))) values.old }
     {
-        let section = self.node_section();
         for k in 0..self.nodes() {
-            let value = node_value(node_at(section, k), reading, &values[..k]);
+            let value = node_value(self.node(k), reading, &values[..k]);
             values[k] = u8::from(value);
         }
     }

@@ -12,14 +12,14 @@ loop-k-init c = rw values_to-none
 pub node_value-value-requires : goal.node_value-value-requires
 node_value-value-requires c =
     let t = c.args.self.now.image.now in
-    rw (c.node_at.ensures.value, c.node_section-section.ensures.value, c.requires.reading_len, length-take-le c.loop-k.k c.loop-k.values (omega arith))
+    rw (c.node.ensures.value, c.requires.reading_len, length-take-le c.loop-k.k c.loop-k.values (omega arith))
     (kept_fits (atom_count t) (node_section t) c.loop-k.k ((accepted t c.args.self.now.checked).nodes-keep c.loop-k.k (omega arith)))
 
 pub loop-k-preserved : goal.loop-k-preserved
 loop-k-preserved c =
     let I = reading_of c.args.reading.now in
     let s = node_section c.args.self.now.image.now in
-    rw (c.from.ensures, c.node_value-value.ensures, c.node_at.ensures.value, c.node_section-section.ensures.value, c.loop-k.invariant, values_to_read I s c.args.values.now c.loop-k.k)
+    rw (c.from.ensures, c.node_value-value.ensures, c.node.ensures.value, c.loop-k.invariant, values_to_read I s c.args.values.now c.loop-k.k)
     (values_to_store I s c.args.values.now c.loop-k.k (omega arith))
 
 pub returns : goal.returns
