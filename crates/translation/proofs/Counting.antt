@@ -86,5 +86,5 @@ counted_pairs s (suc n) =
     record { all = omega (arith, more.all); each = omega (arith, more.each); few = omega arith }
 
 -- The length of an image by what was counted of its rules.
-pub counted_length : (packed : Bool) (p : Program) {rules literals : ℕ} → Counted p.rules rules literals → image_length packed rules literals ≡ length (image_of packed p)
-counted_length packed p c = rw (c.all, c.each) (sym (length-rules_bytes packed p.rules)) ∙ sym (length-image_of packed p)
+pub counted_length : (packed : Bool) (p : Program) {rules literals needed : ℕ} → Counted p.rules rules literals → needed ≡ image_length packed rules literals → needed ≡ length (image_of packed p)
+counted_length packed p c e = e ∙ rw (c.all, c.each) (sym (length-rules_bytes packed p.rules)) ∙ sym (length-image_of packed p)
