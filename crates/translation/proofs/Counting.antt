@@ -2,28 +2,24 @@
 use mathlib.Core.Path.{◌≡◌, refl, sym, ap, ◌∙◌}
 use mathlib.Core.Bool.{Bool, true}
 use mathlib.Core.List.{List, [], ◌∷◌, ◌++◌}
-use Prim.Native.Nat.{ℕ, zero, suc, ◌+◌, ◌*◌, ◌<◌}
+use Prim.Native.Nat.{ℕ, zero, suc, ◌+◌, ◌*◌, ◌≤◌}
 use native.Mathlib.Nat.{add_assoc}
 use native.Mathlib.Omega.{arith}
-use lib.Dec.{leb}
 use lib.ListN.{length, length-append}
-use borrow.Author.Tests.{leb-true}
-use Rattle.refusal.proofs.Table.{cases}
-use Rattle.logic.proofs.Finite.{all_at}
 use Rattle.wire.specs.Sequence.{up_to}
-use Rattle.wire.proofs.Sequence.{length-up_to}
-use Rattle.theory.specs.Image.{kind_of, pair_in}
+use Rattle.theory.specs.Book.{Kind, False, True, Atom, Not, And, Or, Implies}
+use Rattle.theory.specs.Image.{pair_in}
+use Rattle.std.specs.Prelude.{Option}
+use Rattle.program.specs.Literals.{Slotted}
 use Rattle.program.specs.Rule.{RuleOf, Rule}
 use Rattle.program.specs.Program.{Program}
 use Rattle.program.specs.Image.{literals, literal_total, image_length, image_of}
 use Rattle.program.proofs.Lengths.{length-rules_bytes, length-image_of}
 use Rattle.flat.specs.Table.{Slot, rows}
 use Rattle.flat.specs.Flat.{Term, removes, simplify, map_rule, instances, pair_rule}
-use Rattle.table.specs.Shapes.{row_count, literals_of, rows_literals, shape_rule, kind_shape}
-use Rattle.table.specs.OneRule.{filled, all_names, made_of, Few, made_count, made_literals}
-use Rattle.table.proofs.Rows.{shapes-rows, literals_count}
-use Rattle.table.proofs.OneRule.{made_count-made_of, made_literals-made_of}
-use Rattle.table.proofs.Names.{removes-filled, literals-filled}
+use Rattle.table.specs.Shapes.{kind_shapes, rows_literals}
+use Rattle.table.specs.OneRule.{filled, all_names, made_of, made_count, made_literals}
+use Rattle.translation.proofs.FromTable.{made_count-made_of, made_literals-made_of, removes-filled, literals-filled}
 use Rattle.translation.specs.Turns.{pairs_to, kind_rules, Counted}
 
 literal_total-append : (rs qs : List Rule) → literal_total (rs ++ qs) ≡ literal_total rs + literal_total qs
@@ -42,14 +38,12 @@ counted_more {rs} {qs} c d e = record {
   few = omega arith;
 }
 
--- What stays of a rule that was made.
-pub counted_made : (r : RuleOf Term) → Few (made_of r) → Counted (simplify r) (made_count (made_of r)) (made_literals (made_of r))
-unfolding made_of
-counted_made r few = record {
-  all = made_count-made_of r;
-  each = made_literals-made_of r;
-  few = cases (removes r) (λ t. rw t (omega arith)) (λ f. rw f (omega arith));
-}
+-- A rule that was made more, if it stays.
+pub counted_made : {rs whole : List Rule} {a b m n : ℕ} {made : Option Slotted} (r : RuleOf Term) → Counted rs a m → made ≡ made_of r → made_literals made ≤ made_count made * 3
+    → b ≡ a + made_count made → n ≡ m + made_literals made → whole ≡ rs ++ simplify r → Counted whole b n
+counted_made r c is few e f g =
+    let part : Counted (simplify r) (made_count (made_of r)) (made_literals (made_of r)) = record { all = made_count-made_of r; each = made_literals-made_of r; few = rw is at few } in
+    rw (e, f, is) (counted_more c part g)
 
 -- Where x, y, L and M are all names every row's rule stays with all its literals: a kind has as many as its rows.
 module _ (terms : List ℕ) (all : all_names terms ≡ true) where
@@ -59,15 +53,28 @@ module _ (terms : List ℕ) (all : all_names terms ≡ true) where
       let more = counted_rows rs in
       (rw (removes-filled terms all r) (ap suc more.0), literal_total-append (simplify (map_rule (filled terms) r)) (instances (filled terms) rs) ∙ omega (arith, literals-filled terms all r, more.1))
 
-  pub counted_names : (kind : ℕ) → kind < 7 → Counted (kind_rules terms kind) (row_count kind) (literals_of kind)
-  counted_names kind h =
-      let rows_are = shapes-rows kind h in
-      let same = counted_rows (rows (kind_of kind)) in
-      record {
-        all = sym (length-up_to (λ j. shape_rule (kind_shape kind j)) (row_count kind)) ∙ ap length rows_are ∙ sym same.0;
-        each = literals_count kind h ∙ sym same.1;
-        few = leb-true _ _ (all_at (λ k. leb (literals_of k) (row_count k * 3)) 7 refl kind h);
-      }
+  pub counted_names : (kind : Kind) → Counted (kind_rules terms kind) (length (kind_shapes kind)) (rows_literals (rows kind))
+  counted_names kind =
+      let same = counted_rows (rows kind) in
+      record { all = as_many kind ∙ sym same.0; each = sym same.1; few = few kind }
+    where
+      as_many : (kind : Kind) → length (kind_shapes kind) ≡ length (rows kind)
+      as_many False = refl
+      as_many True = refl
+      as_many Atom = refl
+      as_many Not = refl
+      as_many And = refl
+      as_many Or = refl
+      as_many Implies = refl
+
+      few : (kind : Kind) → rows_literals (rows kind) ≤ length (kind_shapes kind) * 3
+      few False = omega arith
+      few True = omega arith
+      few Atom = omega arith
+      few Not = omega arith
+      few And = omega arith
+      few Or = omega arith
+      few Implies = omega arith
 
 -- A pair's rule has two literals.
 pub counted_pairs : (s : List ℕ) (n : ℕ) → Counted (pairs_to s n) n (n * 2)
@@ -79,5 +86,5 @@ counted_pairs s (suc n) =
     record { all = omega (arith, more.all); each = omega (arith, more.each); few = omega arith }
 
 -- The length of an image by what was counted of its rules.
-pub counted_length : (packed : Bool) (p : Program) {rules literals : ℕ} → Counted p.rules rules literals → image_length packed rules literals ≡ length (image_of packed p)
-counted_length packed p c = rw (c.all, c.each) (sym (length-rules_bytes packed p.rules)) ∙ sym (length-image_of packed p)
+pub counted_length : (packed : Bool) (p : Program) {rules literals needed : ℕ} → Counted p.rules rules literals → needed ≡ image_length packed rules literals → needed ≡ length (image_of packed p)
+counted_length packed p c e = e ∙ rw (c.all, c.each) (sym (length-rules_bytes packed p.rules)) ∙ sym (length-image_of packed p)

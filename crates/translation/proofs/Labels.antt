@@ -29,12 +29,11 @@ use Rattle.flat.specs.Table.{label_count}
 use Rattle.flat.specs.Extension.{meanings, labels, labels_from, extend}
 use Rattle.flat.proofs.ByKind.{operands}
 use Rattle.flat.proofs.Extensions.{length-extend}
-use Rattle.table.proofs.Rows.{labels_count}
 use Rattle.translation.specs.Outcome.{size_of}
 use Rattle.translation.specs.Turns.{Nodes, label_bytes, labels_to}
 use Rattle.translation.proofs.Sections.{nodes-accepted}
-use Rattle.translation.proofs.Turns.{labels_to-none, labels_to_more}
-use Rattle.translation.proofs.NodeTerms.{node-fits, kind-known}
+use Rattle.translation.proofs.Turns.{labels_to-none, labels_grow}
+use Rattle.translation.proofs.NodeTerms.{node-fits}
 
 -- ---- one node more
 
@@ -83,14 +82,14 @@ module _ (A : ℕ) (s : List ℕ) (N : ℕ) (ok : Nodes A s N) (I : Reading) (va
       let n = node_in s k in
       let fs = formulas [] (up_to (node_in s) k) in
       let fit = node-fits A s N ok k h in
-      rw (meanings_bytes I n.kind (formula fs n) (formula_at fs n.right), labels_count _ (kind-known A s N ok k h))
+      rw (meanings_bytes I n.kind (formula fs n) (formula_at fs n.right))
       (⊎_elim (λ e. rw e.1) (λ l. rw (own_value k h, earlier_value k n.right (omega arith) l.1))
       (operands A k n.kind n.left n.right fit.0 fit.1))
 
   pub labels_bytes : (k : ℕ) → k ≤ N → labels_to values s k ≡ map number (map (value I) (labels_from [] (up_to (node_in s) k)))
   labels_bytes zero h = rw (labels_to-none, up_to-none)
   labels_bytes (suc k) h =
-      rw (← add-one, labels_to_more, up_to_more, labels_from_more, map-append, map-append)
+      rw (← add-one, (labels_grow _ _).more, up_to_more, labels_from_more, map-append, map-append)
       (ap₂ ◌++◌ (labels_bytes k (omega arith)) (node-labels k h))
 
 -- The bytes of a reading are its values' numbers, if none is over 2.

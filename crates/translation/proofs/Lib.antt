@@ -1,3 +1,4 @@
+pub mod FromTable
 pub mod Turns
 pub mod Counting
 pub mod NodeTerms

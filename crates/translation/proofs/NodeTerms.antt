@@ -12,18 +12,16 @@ use lib.Seq.{get_or-take}
 use Rattle.refusal.specs.Limits.{most_atoms, most_nodes, most_b}
 use Rattle.wire.specs.Sequence.{up_to}
 use Rattle.wire.proofs.Sequence.{length-up_to}
-use Rattle.theory.specs.Book.{Kind, False, True, Atom, Not, And, Or, Implies, left_limit, right_limit}
+use Rattle.theory.specs.Book.{Kind, False, True, Atom, Not, And, Or, Implies, Node, left_limit, right_limit}
 use Rattle.theory.specs.Image.{node_in}
 use Rattle.theory.proofs.Books.{fits-left, fits-right}
-use Rattle.theory.proofs.Accepted.{kept_known, kept_fits}
+use Rattle.theory.proofs.Accepted.{kept_fits}
 use Rattle.flat.specs.Table.{Slot, x, y, L, M, rows, label_count}
 use Rattle.flat.specs.Flat.{Term, constant, name, fill, instances, term_at, node_rules, term_of, term}
 use Rattle.flat.proofs.ByKind.{label_count_le, operands}
 use Rattle.flat.proofs.Sizes.{label_total_le}
-use Rattle.table.specs.Shapes.{kinds, labels_in}
 use Rattle.table.specs.OneRule.{false_term, code, decode, filled}
-use Rattle.table.proofs.Rows.{labels_count, labels-few}
-use Rattle.table.proofs.OneRule.{Below, decode-code}
+use Rattle.translation.proofs.FromTable.{Below, decode-code}
 use Rattle.translation.specs.Turns.{Nodes, next_to, terms_to, slot_terms, kind_rules, NumberedTo}
 use Rattle.translation.proofs.Turns.{next_to_more, terms_to-none, terms_to_more, length-terms_to}
 
@@ -65,21 +63,11 @@ below_more B (u ∷ ts) t h l (suc j) = below_more B ts t (λ i. h (suc i)) l j
 
 -- ---- of an accepted image
 
--- What a turn knows of node k by an index of the kinds and its kind's byte: the kind has a row, which counts its labels, and there is room for them.
-pub record Known (A : ℕ) (s : List ℕ) (k : ℕ) (index : List (List ℕ)) (kind : ℕ) : Type 0 where
-  pub row : kind < 7
-  pub labels : labels_in index kind ≡ label_count (node_in s k).kind
-  pub few : labels_in index kind ≤ 2
-  pub low : next_to A s k ≤ most_b
-
 -- The first nodes of such a section are one.
 pub nodes-first : (A : ℕ) (s : List ℕ) (k N : ℕ) → k ≤ N → Nodes A s N → Nodes A s k
 nodes-first A s k N h ok = record { few-atoms = ok.few-atoms; few = omega (arith, ok.few); long = omega (arith, ok.long); keep = λ i l. ok.keep i (omega arith) }
 
 module _ (A : ℕ) (s : List ℕ) (N : ℕ) (ok : Nodes A s N) where
-  pub kind-known : (k : ℕ) → k < N → get_or s (k * 6) 0 < 7
-  kind-known k h = kept_known A s k (ok.keep k h)
-
   pub node-fits : (k : ℕ) → k < N → ((node_in s k).left < left_limit A k (node_in s k).kind) × ((node_in s k).right < right_limit k (node_in s k).kind)
   node-fits k h =
       let fit = kept_fits A s k (ok.keep k h) in
@@ -96,12 +84,13 @@ module _ (A : ℕ) (s : List ℕ) (N : ℕ) (ok : Nodes A s N) where
   unfolding next_to
   next_le k = omega (arith, label_total_le (up_to (node_in s) k), length-up_to (node_in s) k)
 
-  pub node-known : (k : ℕ) → k < N → (index : List (List ℕ)) (kind : ℕ) → index ≡ kinds → kind ≡ get_or s (k * 6) 0 → Known A s k index kind
-  node-known k h index kind i e =
-      let r : get_or s (k * 6) 0 < 7 = kind-known k h in
-      let known : Known A s k kinds (get_or s (k * 6) 0)
-      = record { row = r; labels = labels_count _ r; few = labels-few _ r; low = omega (arith, next_le k, ok.few, ok.few-atoms) } in
-      rw (i, e) known
+  -- So there is room for them.
+  pub next_low : (k : ℕ) → k ≤ N → next_to A s k ≤ most_b
+  next_low k h = omega (arith, next_le k, ok.few, ok.few-atoms)
+
+  -- What a turn's node and its next label are below.
+  pub turn_small : (k : ℕ) → k < N → {n : Node} {next : ℕ} → n ≡ node_in s k → next ≡ next_to A s k → (n.left < most_nodes) × (n.right < most_nodes) × (next < 65536)
+  turn_small k h e f = let small = operands_small k h in rw (e, f) (small.0, small.1, omega (arith, next_low k (omega arith)))
 
   -- A node's term has a number of two bytes.
   pub code_small : (k : ℕ) → k < N → code (term (next_to A s k) (node_in s k)) < 65536
@@ -168,7 +157,7 @@ module _ (A : ℕ) (s : List ℕ) (N : ℕ) (ok : Nodes A s N) (scratch : List �
       (filled-fill _ _ next _ _ (at n.left l.0) (at n.right l.1) (omega (arith, next_le A s N ok k, ok.few, ok.few-atoms))))
       (operands A k n.kind n.left n.right (node-fits A s N ok k h).0 (node-fits A s N ok k h).1)
 
-  -- The same as a turn has them: from the kind's byte, the next label and the numbers that fill the slots.
-  pub turn_rules : (k : ℕ) → k < N → (kind next : ℕ) (terms : List ℕ) → kind ≡ get_or s (k * 6) 0 → next ≡ next_to A s k → terms ≡ slot_terms scratch next (node_in s k)
-      → kind_rules terms kind ≡ node_rules (terms_to A s k) (next_to A s k) (node_in s k)
-  turn_rules k h kind next terms e f g = rw (g, f, e) (node-rules k h)
+  -- The same as a turn has them: from the node, the next label and the numbers that fill the slots.
+  pub turn_rules : (k : ℕ) → k < N → {n : Node} {next : ℕ} {terms : List ℕ} → n ≡ node_in s k → next ≡ next_to A s k → terms ≡ slot_terms scratch next n
+      → kind_rules terms n.kind ≡ node_rules (terms_to A s k) (next_to A s k) (node_in s k)
+  turn_rules k h e f g = rw (g, f, e) (node-rules k h)

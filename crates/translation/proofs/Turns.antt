@@ -6,18 +6,21 @@ use native.Mathlib.Decide.{le_ind}
 use native.Mathlib.Nat.{add-zero, add_assoc}
 use native.Mathlib.Numerals.{add-one}
 use native.Mathlib.Omega.{arith}
-use lib.ListN.{length, length-append}
+use lib.ListN.{get_or, length, length-append}
 use Rattle.wire.specs.Sequence.{up_to}
 use Rattle.wire.proofs.Sequence.{up_to-none, up_to_more, map-up_to}
-use Rattle.theory.specs.Book.{Node}
+use Rattle.theory.specs.Book.{Kind, False, True, Atom, Not, And, Or, Implies, Node}
 use Rattle.theory.specs.Image.{atom_count, node_count, root_count, pair_count, node_section, root_section, pair_section, node_in, root_in, pair_in, book_of}
 use Rattle.program.specs.Rule.{RuleOf}
 use Rattle.flat.specs.Table.{Slot, label_count}
 use Rattle.flat.specs.Flat.{Term, simplify, map_rule, instances, term_at, node_rules, term, fact, facts, pair_rule, rules_from, label_total, flat}
-use Rattle.table.specs.Shapes.{row_count, shape_rule, kind_shape}
+use Rattle.table.specs.Shapes.{shape_rule, kind_shapes}
 use Rattle.table.specs.OneRule.{filled, rule_in}
-use Rattle.table.proofs.Rows.{shapes-rows}
 use Rattle.translation.specs.Turns.{terms_from, nodes_rules, next_to, terms_to, rules_to, facts_to, pairs_to, kind_rules, rows_to, label_bytes, labels_to}
+
+-- Lists that grow by one part at each turn.
+pub record Grows {S : Type 0} (whole part : ℕ → List S) : Type 0 where
+  pub more : (k : ℕ) → whole (k + 1) ≡ whole k ++ part k
 
 -- ---- one node more, behind a list of nodes
 
@@ -54,6 +57,10 @@ module _ (A : ℕ) (s : List ℕ) where
   unfolding next_to
   next_to_more k = rw (up_to_more, label_total_more) (sym (add_assoc A _ _))
 
+  -- The same from what a turn has of the node.
+  pub next_more : (k : ℕ) {next labels : ℕ} {n : Node} → next ≡ next_to A s k → n ≡ node_in s k → labels ≡ label_count n.kind → next + labels ≡ next_to A s (k + 1)
+  next_more k e f g = rw (next_to_more, e, g, f)
+
   pub terms_to-none : terms_to A s 0 ≡ []
   unfolding terms_to
   terms_to-none = rw up_to-none
@@ -66,9 +73,9 @@ module _ (A : ℕ) (s : List ℕ) where
   unfolding rules_to
   rules_to-none = rw up_to-none
 
-  pub rules_to_more : (k : ℕ) → rules_to A s (k + 1) ≡ rules_to A s k ++ node_rules (terms_to A s k) (next_to A s k) (node_in s k)
+  pub rules_grow : Grows (rules_to A s) (λ k. node_rules (terms_to A s k) (next_to A s k) (node_in s k))
   unfolding next_to terms_to rules_to
-  rules_to_more k = rw up_to_more (nodes_rules_more [] A (up_to (node_in s) k) (node_in s k))
+  rules_grow = record { more = λ k. rw up_to_more (nodes_rules_more [] A (up_to (node_in s) k) (node_in s k)) }
 
   pub length-terms_to : (k : ℕ) → length (terms_to A s k) ≡ k
   length-terms_to zero = ap length terms_to-none
@@ -79,9 +86,12 @@ module _ (f : ℕ → Term) (s : List ℕ) where
   unfolding facts_to
   facts_to-none = refl
 
-  pub facts_to_more : (i : ℕ) → facts_to f s (i + 1) ≡ facts_to f s i ++ simplify (fact (f (root_in s i)))
+  pub facts_grow : Grows (facts_to f s) (λ i. simplify (fact (f (root_in s i))))
   unfolding facts_to
-  facts_to_more i = rw add-one
+  facts_grow = record { more = λ i. rw add-one }
+
+pub pairs_grow : (s : List ℕ) → Grows (pairs_to s) (λ i. pair_rule (pair_in s i) ∷ [])
+pairs_grow s = record { more = up_to_more (λ i. pair_rule (pair_in s i)) }
 
 facts_more : (ts : List Term) (ks : List ℕ) (k : ℕ) → facts ts (ks ++ (k ∷ [])) ≡ facts ts ks ++ simplify (fact (term_at ts k))
 facts_more ts [] k = append-nil _
@@ -100,35 +110,40 @@ instances_more : (f : Slot → Term) (rs : List (RuleOf Slot)) (r : RuleOf Slot)
 instances_more f [] r = append-nil _
 instances_more f (q ∷ rs) r = rw append_assoc (ap (λ l. simplify (map_rule f q) ++ l) (instances_more f rs r))
 
-module _ (terms : List ℕ) (kind : ℕ) where
-  pub rows_to-none : rows_to terms kind 0 ≡ []
+module _ (terms : List ℕ) where
+  pub rows_to-none : (kind : Kind) → rows_to terms kind 0 ≡ []
   unfolding rows_to
-  rows_to-none = rw up_to-none
+  rows_to-none kind = rw up_to-none
 
-  pub rows_to_more : (j : ℕ) → rows_to terms kind (j + 1) ≡ rows_to terms kind j ++ simplify (rule_in (kind_shape kind j) terms)
+  pub rows_grow : (kind : Kind) → Grows (rows_to terms kind) (λ j. simplify (rule_in (get_or (kind_shapes kind) j []) terms))
   unfolding rows_to
-  rows_to_more j = rw up_to_more (instances_more (filled terms) (up_to (λ i. shape_rule (kind_shape kind i)) j) (shape_rule (kind_shape kind j)))
+  rows_grow kind = record { more = λ j. rw up_to_more (instances_more (filled terms) _ (shape_rule (get_or (kind_shapes kind) j []))) }
 
   -- After the last row they are the kind's rules.
-  pub rows_to-all : kind < 7 → rows_to terms kind (row_count kind) ≡ kind_rules terms kind
-  unfolding rows_to
-  rows_to-all h = ap (instances (filled terms)) (shapes-rows kind h)
+  pub rows_to-all : (kind : Kind) → rows_to terms kind (length (kind_shapes kind)) ≡ kind_rules terms kind
+  unfolding rows_to up_to
+  rows_to-all False = refl
+  rows_to-all True = refl
+  rows_to-all Atom = refl
+  rows_to-all Not = refl
+  rows_to-all And = refl
+  rows_to-all Or = refl
+  rows_to-all Implies = refl
 
 module _ (values s : List ℕ) where
   pub labels_to-none : labels_to values s 0 ≡ []
   unfolding labels_to
   labels_to-none = refl
 
-  pub labels_to_more : (k : ℕ) → labels_to values s (k + 1) ≡ labels_to values s k ++ label_bytes values s k
+  pub labels_grow : Grows (labels_to values s) (label_bytes values s)
   unfolding labels_to
-  labels_to_more k = rw add-one
+  labels_grow = record { more = λ k. rw add-one }
 
--- Of lists that grow by one part at each turn, the last holds each with its part.
-pub grown : {S : Type 0} (whole part : ℕ → List S) → ((k : ℕ) → whole (k + 1) ≡ whole k ++ part k) → (k n : ℕ) → k < n
-    → length (whole k) + length (part k) ≤ length (whole n)
-grown whole part more k n h =
-    le_ind (λ m. length (whole k) + length (part k) ≤ length (whole m)) (rw (← add-one, more, length-append) (omega arith))
-    (λ m l e. rw (← add-one, more, length-append) (omega arith)) n h
+-- Of such lists the last holds each with its part.
+pub grown : {S : Type 0} {whole part : ℕ → List S} → Grows whole part → (k n : ℕ) → k < n → length (whole k) + length (part k) ≤ length (whole n)
+grown {whole = whole} {part = part} g k n h =
+    le_ind (λ m. length (whole k) + length (part k) ≤ length (whole m)) (rw (← add-one, g.more, length-append) (omega arith))
+    (λ m l e. rw (← add-one, g.more, length-append) (omega arith)) n h
 
 -- ---- after the last turn
 

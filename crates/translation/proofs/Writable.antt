@@ -29,10 +29,10 @@ use Rattle.program.proofs.Reading.{image_of-accepted, program_of-image_of, image
 use Rattle.flat.specs.Table.{Slot, x, y, L, M, rows, label_count}
 use Rattle.flat.specs.Flat.{Term, constant, name, names, removes, reduce, simplify, fill, fact, map_rule, instances, term_at, pair_rule, flat, largest_b}
 use Rattle.flat.proofs.Sizes.{size_bound}
-use Rattle.table.proofs.OneRule.{Below, length-names}
+use Rattle.translation.proofs.FromTable.{Below, length-names}
 use Rattle.translation.specs.Outcome.{size_of, rule_total}
 use Rattle.translation.specs.Turns.{Nodes, next_to, terms_to, rules_to, facts_to, pairs_to}
-use Rattle.translation.proofs.Turns.{next_to-none, next_to_more, rules_to-none, rules_to_more, facts_to-none, facts_to_more, flat-size, flat-rules}
+use Rattle.translation.proofs.Turns.{next_to-none, next_to_more, rules_to-none, rules_grow, facts_to-none, facts_grow, flat-size, flat-rules}
 use Rattle.translation.proofs.NodeTerms.{below_le, terms_below}
 use Rattle.translation.proofs.Sections.{nodes-accepted, accepted_total}
 
@@ -136,7 +136,7 @@ module _ (A : ℕ) (s : List ℕ) (N : ℕ) (ok : Nodes A s N) where
       let term_in : (j : ℕ) → Below B (term_at (terms_to A s k) j)
       = λ j. below_le (next_to A s k) B (next_up k N (omega arith)) (term_at (terms_to A s k) j) (terms_below A s N ok k (omega arith) j) in
       let room : next_to A s k + label_count n.kind ≤ B = rw next_to_more at (next_up (k + 1) N (omega arith)) in
-      rw (← add-one, rules_to_more)
+      rw (← add-one, (rules_grow _ _).more)
       (rules_writable-append packed B (rules_to A s k) _ (rules_to-writable packed k (omega arith))
       (kind-writable B (next_to A s k) _ _ (term_in n.left) (term_in n.right) packed n.kind room))
 
@@ -144,7 +144,7 @@ module _ (A : ℕ) (s : List ℕ) (N : ℕ) (ok : Nodes A s N) where
   facts_to-writable packed roots zero = rw facts_to-none
   facts_to-writable packed roots (suc i) =
       let B = next_to A s N in
-      rw (← add-one, facts_to_more)
+      rw (← add-one, (facts_grow _ _).more)
       (rules_writable-append packed B (facts_to (term_at (terms_to A s N)) roots i) _ (facts_to-writable packed roots i)
       (simplify-writable packed B (fact (term_at (terms_to A s N) (root_in roots i))) (omega arith) (terms_below A s N ok N (omega arith) (root_in roots i), tt) tt tt))
 

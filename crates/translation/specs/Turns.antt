@@ -70,7 +70,7 @@ kind_rules terms kind = instances (filled terms) (rows kind)
 
 -- and those of its first j rows.
 unfoldable pub rows_to : (terms : List ℕ) → Kind → (j : ℕ) → List Rule
-rows_to terms kind j = instances (filled terms) (map shape_rule (take j (kind_shapes kind)))
+rows_to terms kind j = instances (filled terms) (up_to (λ i. shape_rule (get_or (kind_shapes kind) i [])) j)
 
 -- So many rules with so many literals are those of a list, three literals a rule at most.
 pub record Counted (rs : List Rule) (rules literals : ℕ) : Type 0 where

@@ -35,7 +35,8 @@ impl Counts {
     // With those of a rule more, if it stays.
     fn with(self, made: &Option<Rule>) -> Counts
         requires { (self.rules < 65536) × (self.literals < 65536) }
-        ensures { (result.rules ≡ self.rules + made_count made.now) × (result.literals ≡ self.literals + made_literals made.now) }
+        ensures rules_value { (result.rules ≡ self.rules + made_count made.now) × (result.literals ≡ self.literals + made_literals made.now) }
+        ensures few { (made_count made.now ≤ 1) × (made_literals made.now ≤ made_count made.now * 3) }
     {
         match made {
             Some(rule) => Counts {
