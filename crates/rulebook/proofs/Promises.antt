@@ -23,7 +23,9 @@ use Rattle.logic.specs.AnswerSet.{AnswerSet, is_answer_set, answer_sets}
 use Rattle.logic.proofs.Values
 use Rattle.logic.proofs.Worlds
 use Rattle.logic.proofs.AnswerSets
-use Rattle.theory.specs.Book.{Pair, Book, node_at, Implies, pair_fits, WellFormed, formula_at, node_formulas, pair_formula, book_formulas}
+use Rattle.theory.specs.declared.Kind.TheVariants.{Implies}
+use Rattle.theory.specs.declared.Pair.{Pair}
+use Rattle.theory.specs.Book.{Book, node_at, pair_fits, WellFormed, formula_at, node_formulas, pair_formula, book_formulas}
 use Rattle.theory.specs.BenchCases.{BenchCase, bench_cases, atoms_from, sets_of, uses_of, use_cases}
 use Rattle.theory.specs.Image.{atom_count, node_count, root_count, pair_count, node_section, root_section, pair_section, field_wrong, breaks, root_in, pair_in, book_of}
 use Rattle.theory.specs.Used.{operands, used}

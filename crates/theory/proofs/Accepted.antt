@@ -15,7 +15,10 @@ use Rattle.logic.proofs.Bools.{&&_join, ||-split}
 use Rattle.wire.specs.Sequence.{up_to}
 use Rattle.wire.proofs.Laws.{all_below-each}
 use Rattle.wire.proofs.Sequence.{length-up_to, get_d_up_to}
-use Rattle.theory.specs.Book.{Kind, False, True, Atom, Not, And, Or, Implies, Node, WellFormed, left_limit, right_limit, left_fits, right_fits, fits, pair_fits}
+use Rattle.theory.specs.declared.Kind.{Kind}
+use Rattle.theory.specs.declared.Kind.TheVariants.{False, True, Atom, Not, And, Or, Implies}
+use Rattle.theory.specs.declared.Node.{Node}
+use Rattle.theory.specs.Book.{WellFormed, left_limit, right_limit, left_fits, right_fits, fits, pair_fits}
 use Rattle.theory.specs.Image.{atom_count, node_count, root_count, pair_count, image_length, node_section, root_section, pair_section, node_in, field_wrong, breaks, root_in, pair_in, book_of}
 use Rattle.theory.specs.Used.{used}
 use Rattle.theory.specs.Rows.{row6, row7, row13, row15, header_rows, form_rows, theory_rows}

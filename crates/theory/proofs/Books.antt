@@ -12,7 +12,8 @@ use Rattle.logic.specs.Formula.{Formula, falsum}
 use Rattle.logic.proofs.Bools.{&&_split, &&_join}
 use Rattle.wire.specs.Sequence.{up_to}
 use Rattle.wire.proofs.Sequence.{up_to_more}
-use Rattle.theory.specs.Book.{Node, node_at, left_limit, right_limit, left_fits, right_fits, fits, all_fit, formula_at, formula, formulas}
+use Rattle.theory.specs.declared.Node.{Node}
+use Rattle.theory.specs.Book.{node_at, left_limit, right_limit, left_fits, right_fits, fits, all_fit, formula_at, formula, formulas}
 
 -- Left and right of a node that fits are below their limits.
 pub fits-left : (A k : ℕ) (n : Node) → fits A k n ≡ true → n.left < left_limit A k n.kind

@@ -12,7 +12,10 @@ use Rattle.wire.specs.Wire.{over}
 use Rattle.wire.specs.Sequence.{up_to}
 use Rattle.wire.proofs.Laws.{over_store}
 use Rattle.wire.proofs.Sequence.{up_to-none, length-up_to}
-use Rattle.theory.specs.Book.{Kind, False, True, Atom, Not, And, Or, Implies, Node, say, formula, formulas}
+use Rattle.theory.specs.declared.Kind.{Kind}
+use Rattle.theory.specs.declared.Kind.TheVariants.{False, True, Atom, Not, And, Or, Implies}
+use Rattle.theory.specs.declared.Node.{Node}
+use Rattle.theory.specs.Book.{say, formula, formulas}
 use Rattle.theory.specs.Image.{node_count, node_section, node_in, book_of}
 use Rattle.theory.specs.NodeValues.{worth, value_from, values_to, node_values}
 use Rattle.theory.proofs.Books.{length-formulas, formulas-up_to}

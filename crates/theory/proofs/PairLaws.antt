@@ -22,7 +22,8 @@ use Rattle.logic.proofs.Formulas.{satisfies-append, value_up}
 use Rattle.logic.proofs.Sets.{inside_refl, there_of-reading}
 use Rattle.logic.proofs.Stable.{Stable, stable_iff}
 use Rattle.wire.specs.Sequence.{up_to}
-use Rattle.theory.specs.Book.{Pair, pair_fits, pairs_fit, pair_formula}
+use Rattle.theory.specs.declared.Pair.{Pair}
+use Rattle.theory.specs.Book.{pair_fits, pairs_fit, pair_formula}
 
 -- The two atoms of a pair that fits are the book's.
 pub pair-below : (A : ℕ) (p : Pair) → pair_fits A p ≡ true → (p.first < A) × (p.second < A)

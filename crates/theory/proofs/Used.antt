@@ -21,7 +21,10 @@ use Rattle.wire.specs.Wire.{all_below}
 use Rattle.wire.specs.Sequence.{up_to}
 use Rattle.wire.proofs.Laws.{all_below_at, all_below-each}
 pub use Rattle.wire.proofs.Sequence.{up_to-none, up_to_more}
-use Rattle.theory.specs.Book.{Kind, False, True, Atom, Not, And, Or, Implies, Node, Book, node_at, left_limit, right_limit, fits, WellFormed}
+use Rattle.theory.specs.declared.Kind.{Kind}
+use Rattle.theory.specs.declared.Kind.TheVariants.{False, True, Atom, Not, And, Or, Implies}
+use Rattle.theory.specs.declared.Node.{Node}
+use Rattle.theory.specs.Book.{Book, node_at, left_limit, right_limit, fits, WellFormed}
 use Rattle.theory.specs.Used.{operands_of, operands, all_operands, among, used}
 use Rattle.theory.specs.Marks.{marked}
 use Rattle.theory.proofs.Books.{fits-left, fits-right, all_fit_at}

@@ -3,7 +3,10 @@ use Rattle.std.specs.Prelude.{Bool, true, false, cond, List, [], ◌∷◌, map,
 use Rattle.logic.specs.Atoms.{Atoms}
 use Rattle.logic.specs.AnswerSet.{answer_sets}
 use Rattle.wire.specs.Sequence.{up_to}
-use Rattle.theory.specs.Book.{Kind, False, Atom, Not, And, Or, Implies, Node, Book, book_formulas}
+use Rattle.theory.specs.declared.Kind.{Kind}
+use Rattle.theory.specs.declared.Kind.TheVariants.{False, Atom, Not, And, Or, Implies}
+use Rattle.theory.specs.declared.Node.{Node}
+use Rattle.theory.specs.Book.{Book, book_formulas}
 use Rattle.theory.specs.Used.{used}
 
 -- The atoms of a set, ascending, the first of the list being atom k.

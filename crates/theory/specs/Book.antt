@@ -1,12 +1,11 @@
--- A rule book: atoms, nodes, roots and pairs, and the formulas that it stands for.
+-- A rule book: atoms, nodes, roots and pairs, and the formulas that it stands for. A kind of node, a node and a pair are the types of the code.
 use Rattle.std.specs.Prelude.{◌≡◌, Bool, true, ◌&&◌, List, [], ◌∷◌, ◌++◌, map, ℕ, suc, ltb, get_or, length}
 use Rattle.wire.specs.Wire.{all_below}
 use Rattle.logic.specs.Formula.{Formula, falsum, verum, atom, neg, conj, disj, impl}
--- The kinds of node, 0 to 6; a node: its kind, left and right; and a pair: an atom and its strong negation, the smaller number first.
-pub use Rattle.theory.specs.declared.Kind.{Kind}
-pub use Rattle.theory.specs.declared.Kind.TheVariants.{False, True, Atom, Not, And, Or, Implies}
-pub use Rattle.theory.specs.declared.Node.{Node}
-pub use Rattle.theory.specs.declared.Pair.{Pair}
+use Rattle.theory.specs.declared.Kind.{Kind}
+use Rattle.theory.specs.declared.Kind.TheVariants.{False, True, Atom, Not, And, Or, Implies}
+use Rattle.theory.specs.declared.Node.{Node}
+use Rattle.theory.specs.declared.Pair.{Pair}
 
 -- Node k of a list of nodes.
 abbrev pub node_at : List Node → ℕ → Node

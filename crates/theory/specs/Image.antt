@@ -5,7 +5,11 @@ use Rattle.refusal.specs.Refusal.{field_number}
 use Rattle.refusal.specs.First.{first}
 use Rattle.wire.specs.Wire.{u16_at}
 use Rattle.wire.specs.Sequence.{up_to}
-use Rattle.theory.specs.Book.{Kind, False, True, Atom, Not, And, Or, Implies, Node, Pair, Book, left_fits, right_fits}
+use Rattle.theory.specs.declared.Kind.{Kind}
+use Rattle.theory.specs.declared.Kind.TheVariants.{False, True, Atom, Not, And, Or, Implies}
+use Rattle.theory.specs.declared.Node.{Node}
+use Rattle.theory.specs.declared.Pair.{Pair}
+use Rattle.theory.specs.Book.{Book, left_fits, right_fits}
 
 -- A, N, R and P of the header.
 abbrev pub atom_count : List ℕ → ℕ

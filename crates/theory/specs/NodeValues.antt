@@ -5,7 +5,10 @@ use Rattle.logic.specs.declared.Value.TheVariants.{Neither, Both}
 use Rattle.logic.specs.Value.{smaller, larger, negation, implication}
 use Rattle.logic.specs.Formula.{Reading, value, value_of}
 use Rattle.wire.specs.Sequence.{up_to}
-use Rattle.theory.specs.Book.{Kind, False, True, Atom, Not, And, Or, Implies, Node, Book, formulas, node_formulas}
+use Rattle.theory.specs.declared.Kind.{Kind}
+use Rattle.theory.specs.declared.Kind.TheVariants.{False, True, Atom, Not, And, Or, Implies}
+use Rattle.theory.specs.declared.Node.{Node}
+use Rattle.theory.specs.Book.{Book, formulas, node_formulas}
 use Rattle.theory.specs.Image.{node_in}
 
 -- What a kind is worth, by the value of the atom that left names and the values of the nodes left and right.

@@ -1,6 +1,9 @@
 -- Which nodes of a book are used: an operand of some node is, and so is a root.
 use Rattle.std.specs.Prelude.{Bool, false, ◌||◌, List, [], ◌∷◌, ◌++◌, ℕ, eqb}
-use Rattle.theory.specs.Book.{Kind, False, True, Atom, Not, And, Or, Implies, Node, Book}
+use Rattle.theory.specs.declared.Kind.{Kind}
+use Rattle.theory.specs.declared.Kind.TheVariants.{False, True, Atom, Not, And, Or, Implies}
+use Rattle.theory.specs.declared.Node.{Node}
+use Rattle.theory.specs.Book.{Book}
 
 -- The operands of a kind: left of not, left and right of and, or and implies. What an atom's left names is no node.
 abbrev pub operands_of : Kind → (left right : ℕ) → List ℕ

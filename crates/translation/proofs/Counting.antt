@@ -7,7 +7,8 @@ use native.Mathlib.Nat.{add_assoc}
 use native.Mathlib.Omega.{arith}
 use lib.ListN.{length, length-append}
 use Rattle.wire.specs.Sequence.{up_to}
-use Rattle.theory.specs.Book.{Kind, False, True, Atom, Not, And, Or, Implies}
+use Rattle.theory.specs.declared.Kind.{Kind}
+use Rattle.theory.specs.declared.Kind.TheVariants.{False, True, Atom, Not, And, Or, Implies}
 use Rattle.theory.specs.Image.{pair_in}
 use Rattle.std.specs.Prelude.{Option}
 use Rattle.program.specs.Literals.{Slotted}

@@ -4,7 +4,7 @@ use mathlib.Core.Bool.{Bool, true, false}
 use mathlib.Core.List.{List, [], ◌∷◌, ◌++◌, map}
 use Prim.Native.Nat.{ℕ, zero, suc, ◌+◌, ◌*◌, ◌≤◌, ◌<◌}
 use lib.ListN.{length, get_or}
-use Rattle.theory.specs.Book.{Kind}
+use Rattle.theory.specs.declared.Kind.{Kind}
 use Rattle.program.specs.Rule.{RuleOf}
 use Rattle.program.specs.Image.{literal_total, rules_bytes}
 use Rattle.flat.specs.Table.{Slot, rows}

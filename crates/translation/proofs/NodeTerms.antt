@@ -12,7 +12,10 @@ use lib.Seq.{get_or-take}
 use Rattle.refusal.specs.Limits.{most_atoms, most_nodes, most_b}
 use Rattle.wire.specs.Sequence.{up_to}
 use Rattle.wire.proofs.Sequence.{length-up_to}
-use Rattle.theory.specs.Book.{Kind, False, True, Atom, Not, And, Or, Implies, Node, left_limit, right_limit}
+use Rattle.theory.specs.declared.Kind.{Kind}
+use Rattle.theory.specs.declared.Kind.TheVariants.{False, True, Atom, Not, And, Or, Implies}
+use Rattle.theory.specs.declared.Node.{Node}
+use Rattle.theory.specs.Book.{left_limit, right_limit}
 use Rattle.theory.specs.Image.{node_in}
 use Rattle.theory.proofs.Books.{fits-left, fits-right}
 use Rattle.theory.proofs.Accepted.{kept_fits}

@@ -13,7 +13,9 @@ use Rattle.refusal.specs.Limits.{most_atoms, most_b, most_rules}
 use Rattle.refusal.specs.Table.{Row, none}
 use Rattle.refusal.proofs.Table.{cases}
 use Rattle.logic.proofs.Bools.{&&_split, &&_join}
-use Rattle.theory.specs.Book.{pair_fits, Kind, False, True, Atom, Not, And, Or, Implies}
+use Rattle.theory.specs.declared.Kind.{Kind}
+use Rattle.theory.specs.declared.Kind.TheVariants.{False, True, Atom, Not, And, Or, Implies}
+use Rattle.theory.specs.Book.{pair_fits}
 use Rattle.theory.specs.Image.{atom_count, node_count, root_count, pair_count, node_section, root_section, pair_section, node_in, root_in, pair_in, book_of}
 use Rattle.theory.specs.Rows.{theory_rows}
 use Rattle.theory.proofs.Accepted.{accepted, accepted_well_formed}

@@ -1,5 +1,5 @@
-use Rattle.std.proofs.Common.{◌≡◌, ap, ◌∙◌, Bool, List, ℕ, get_or, Option}
-use Rattle.theory.specs.Image.{root_in}
+use Rattle.std.proofs.Common.{◌≡◌, ap, ◌∙◌, arith, Bool, List, ℕ, get_or, Option}
+use Rattle.theory.specs.Image.{root_section, root_in}
 use Rattle.program.specs.Literals.{Slotted}
 use Rattle.program.specs.Image.{rules_bytes}
 use Rattle.flat.specs.Flat.{fact, simplify}
@@ -20,11 +20,11 @@ loop-i-init c = written_no_rules _ _ _ (facts_to-none _ _)
 
 pub put_rule-at-requires : goal.put_rule-at-requires
 put_rule-at-requires c =
-    part_fits (bytes_grow c.args.packed (facts_grow _ _)) c.loop-i.invariant c.loop-i-test.true c.requires.count_in_bounds
-    (bytes-are c.args.packed c.args.terms.now c.args.roots.now c.loop-i.i _ _ c.root_at.ensures.0 c.from.ensures c.fact_of.ensures)
+    part_fits (bytes_grow c.args.packed (facts_grow _ _)) c.loop-i.invariant (omega arith) c.requires
+    (bytes-are c.args.packed c.args.terms.now (root_section c.args.theory.now.image.now) c.loop-i.i _ _ c.root.ensures.0 c.from.ensures c.fact_of.ensures)
 
 pub loop-i-preserved : goal.loop-i-preserved
 loop-i-preserved c =
-    part_written (bytes_grow c.args.packed (facts_grow _ _)) c.loop-i.invariant c.loop-i-test.true c.requires.count_in_bounds
-    (bytes-are c.args.packed c.args.terms.now c.args.roots.now c.loop-i.i _ _ c.root_at.ensures.0 c.from.ensures c.fact_of.ensures)
+    part_written (bytes_grow c.args.packed (facts_grow _ _)) c.loop-i.invariant (omega arith) c.requires
+    (bytes-are c.args.packed c.args.terms.now (root_section c.args.theory.now.image.now) c.loop-i.i _ _ c.root.ensures.0 c.from.ensures c.fact_of.ensures)
     c.put_rule-at.ensures.value c.put_rule-at.ensures.out_after

@@ -1,5 +1,5 @@
 use Rattle.std.proofs.Common.{◌≡◌, Bool, List, [], ℕ, ◌<◌, ◌≤◌, length, get_or, arith, Option}
-use Rattle.theory.specs.Book.{Kind}
+use Rattle.theory.specs.declared.Kind.{Kind}
 use Rattle.program.specs.Literals.{Slotted}
 use Rattle.program.specs.Image.{rules_bytes}
 use Rattle.flat.specs.Flat.{simplify}
