@@ -7,7 +7,8 @@ use native.Mathlib.Nat.{add_assoc}
 use native.Mathlib.Omega.{arith}
 use lib.ListN.{length, length-append}
 use Rattle.wire.specs.Sequence.{up_to}
-use Rattle.theory.specs.Book.{Kind, False, True, Atom, Not, And, Or, Implies}
+use Rattle.theory.specs.declared.Kind.{Kind}
+use Rattle.theory.specs.declared.Kind.TheVariants.{False, True, Atom, Not, And, Or, Implies}
 use Rattle.theory.specs.Image.{pair_in}
 use Rattle.std.specs.Prelude.{Option}
 use Rattle.program.specs.Literals.{Slotted}
@@ -19,7 +20,8 @@ use Rattle.flat.specs.Table.{Slot, rows}
 use Rattle.flat.specs.Flat.{Term, removes, simplify, map_rule, instances, pair_rule}
 use Rattle.table.specs.Shapes.{kind_shapes, rows_literals}
 use Rattle.table.specs.OneRule.{filled, all_names, made_of, made_count, made_literals}
-use Rattle.translation.proofs.FromTable.{made_count-made_of, made_literals-made_of, removes-filled, literals-filled}
+use Rattle.table.proofs.OneRule.{made_count-made_of, made_literals-made_of}
+use Rattle.table.proofs.Names.{removes-filled, literals-filled}
 use Rattle.translation.specs.Turns.{pairs_to, kind_rules, Counted}
 
 literal_total-append : (rs qs : List Rule) → literal_total (rs ++ qs) ≡ literal_total rs + literal_total qs

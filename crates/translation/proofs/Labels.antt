@@ -20,7 +20,10 @@ use Rattle.logic.specs.declared.Value.TheVariants.{Neither}
 use Rattle.logic.specs.Value.{number, of_byte, negation}
 use Rattle.logic.specs.Formula.{Formula, falsum, Reading, reading_of, value}
 use Rattle.logic.proofs.Values.{of_byte-number, number-of_byte}
-use Rattle.theory.specs.Book.{Kind, False, True, Atom, Not, And, Or, Implies, Node, formula_at, formula, formulas}
+use Rattle.theory.specs.declared.Kind.{Kind}
+use Rattle.theory.specs.declared.Kind.TheVariants.{False, True, Atom, Not, And, Or, Implies}
+use Rattle.theory.specs.declared.Node.{Node}
+use Rattle.theory.specs.Book.{formula_at, formula, formulas}
 use Rattle.theory.specs.Image.{atom_count, node_count, node_section, node_in, book_of}
 use Rattle.theory.specs.Rows.{theory_rows}
 use Rattle.theory.specs.NodeValues.{values_to, node_values}

@@ -12,7 +12,10 @@ use lib.Seq.{get_or-take}
 use Rattle.refusal.specs.Limits.{most_atoms, most_nodes, most_b}
 use Rattle.wire.specs.Sequence.{up_to}
 use Rattle.wire.proofs.Sequence.{length-up_to}
-use Rattle.theory.specs.Book.{Kind, False, True, Atom, Not, And, Or, Implies, Node, left_limit, right_limit}
+use Rattle.theory.specs.declared.Kind.{Kind}
+use Rattle.theory.specs.declared.Kind.TheVariants.{False, True, Atom, Not, And, Or, Implies}
+use Rattle.theory.specs.declared.Node.{Node}
+use Rattle.theory.specs.Book.{left_limit, right_limit}
 use Rattle.theory.specs.Image.{node_in}
 use Rattle.theory.proofs.Books.{fits-left, fits-right}
 use Rattle.theory.proofs.Accepted.{kept_fits}
@@ -21,7 +24,7 @@ use Rattle.flat.specs.Flat.{Term, constant, name, fill, instances, term_at, node
 use Rattle.flat.proofs.ByKind.{label_count_le, operands}
 use Rattle.flat.proofs.Sizes.{label_total_le}
 use Rattle.table.specs.OneRule.{false_term, code, decode, filled}
-use Rattle.translation.proofs.FromTable.{Below, decode-code}
+use Rattle.table.proofs.OneRule.{Below, decode-code}
 use Rattle.translation.specs.Turns.{Nodes, next_to, terms_to, slot_terms, kind_rules, NumberedTo}
 use Rattle.translation.proofs.Turns.{next_to_more, terms_to-none, terms_to_more, length-terms_to}
 

@@ -9,7 +9,9 @@ use native.Mathlib.Omega.{arith}
 use lib.ListN.{get_or, length, length-append}
 use Rattle.wire.specs.Sequence.{up_to}
 use Rattle.wire.proofs.Sequence.{up_to-none, up_to_more, map-up_to}
-use Rattle.theory.specs.Book.{Kind, False, True, Atom, Not, And, Or, Implies, Node}
+use Rattle.theory.specs.declared.Kind.{Kind}
+use Rattle.theory.specs.declared.Kind.TheVariants.{False, True, Atom, Not, And, Or, Implies}
+use Rattle.theory.specs.declared.Node.{Node}
 use Rattle.theory.specs.Image.{atom_count, node_count, root_count, pair_count, node_section, root_section, pair_section, node_in, root_in, pair_in, book_of}
 use Rattle.program.specs.Rule.{RuleOf}
 use Rattle.flat.specs.Table.{Slot, label_count}

@@ -13,7 +13,9 @@ use Rattle.refusal.specs.Limits.{most_atoms, most_b, most_rules}
 use Rattle.refusal.specs.Table.{Row, none}
 use Rattle.refusal.proofs.Table.{cases}
 use Rattle.logic.proofs.Bools.{&&_split, &&_join}
-use Rattle.theory.specs.Book.{pair_fits, Kind, False, True, Atom, Not, And, Or, Implies}
+use Rattle.theory.specs.declared.Kind.{Kind}
+use Rattle.theory.specs.declared.Kind.TheVariants.{False, True, Atom, Not, And, Or, Implies}
+use Rattle.theory.specs.Book.{pair_fits}
 use Rattle.theory.specs.Image.{atom_count, node_count, root_count, pair_count, node_section, root_section, pair_section, node_in, root_in, pair_in, book_of}
 use Rattle.theory.specs.Rows.{theory_rows}
 use Rattle.theory.proofs.Accepted.{accepted, accepted_well_formed}
@@ -29,7 +31,7 @@ use Rattle.program.proofs.Reading.{image_of-accepted, program_of-image_of, image
 use Rattle.flat.specs.Table.{Slot, x, y, L, M, rows, label_count}
 use Rattle.flat.specs.Flat.{Term, constant, name, names, removes, reduce, simplify, fill, fact, map_rule, instances, term_at, pair_rule, flat, largest_b}
 use Rattle.flat.proofs.Sizes.{size_bound}
-use Rattle.translation.proofs.FromTable.{Below, length-names}
+use Rattle.table.proofs.OneRule.{Below, length-names}
 use Rattle.translation.specs.Outcome.{size_of, rule_total}
 use Rattle.translation.specs.Turns.{Nodes, next_to, terms_to, rules_to, facts_to, pairs_to}
 use Rattle.translation.proofs.Turns.{next_to-none, next_to_more, rules_to-none, rules_grow, facts_to-none, facts_grow, flat-size, flat-rules}

@@ -9,7 +9,7 @@ use lib.Seq.{length-take-le, drop_at}
 use borrow.Rule.Slice.PartMut.{put_mid}
 use Rattle.wire.specs.Wire.{over}
 use Rattle.wire.proofs.Laws.{length_over, Written, written_none, turn_room, turn}
-use Rattle.theory.specs.Book.{Pair}
+use Rattle.theory.specs.declared.Pair.{Pair}
 use Rattle.program.specs.Rule.{Rule}
 use Rattle.program.specs.Literals.{slotted_bytes}
 use Rattle.program.specs.Image.{slot_bytes, rule_bytes, rules_bytes}

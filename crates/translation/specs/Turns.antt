@@ -3,7 +3,8 @@ use Rattle.std.specs.Prelude.{◌≡◌, false, List, [], ◌∷◌, ◌++◌, m
 use Rattle.refusal.specs.Limits.{most_atoms, most_nodes, most_roots}
 use Rattle.wire.specs.Sequence.{up_to}
 use Rattle.logic.specs.Value.{number, of_byte, negation}
-use Rattle.theory.specs.Book.{Kind, Node}
+use Rattle.theory.specs.declared.Kind.{Kind}
+use Rattle.theory.specs.declared.Node.{Node}
 use Rattle.theory.specs.Image.{atom_count, node_count, node_section, node_in, breaks, root_in, pair_in}
 use Rattle.program.specs.Rule.{Rule}
 use Rattle.program.specs.Image.{literal_total}

@@ -19,19 +19,19 @@ total t scratch ok numbered {n = n} nodes e f roots g =
     (all, omega (arith, all.all, accepted_total t ok))
 
 pub count_facts-facts-requires : goal.count_facts-facts-requires
-count_facts-facts-requires c = rw (c.root_section.ensures, c.roots.ensures.0) (roots-within _ c.args.theory.now.checked)
+count_facts-facts-requires c = rw (c.root_section.ensures.value, c.roots.ensures.0) (roots-within _ c.args.theory.now.checked)
 
 pub and-requires : goal.and-requires
 and-requires c =
-    let all = total _ _ c.args.theory.now.checked c.requires.numbered c.requires.counted c.root_section.ensures c.roots.ensures.0 c.count_facts-facts.ensures c.pairs-pairs.ensures.0 in
+    let all = total _ _ c.args.theory.now.checked c.requires.numbered c.requires.counted c.root_section.ensures.value c.roots.ensures.0 c.count_facts-facts.ensures c.pairs-pairs.ensures.0 in
     (omega arith, omega arith)
 
 pub and-requires-2 : goal.and-requires-2
 and-requires-2 c =
-    let all = total _ _ c.args.theory.now.checked c.requires.numbered c.requires.counted c.root_section.ensures c.roots.ensures.0 c.count_facts-facts.ensures c.pairs-pairs.ensures.0 in
+    let all = total _ _ c.args.theory.now.checked c.requires.numbered c.requires.counted c.root_section.ensures.value c.roots.ensures.0 c.count_facts-facts.ensures c.pairs-pairs.ensures.0 in
     (omega arith, omega arith)
 
 pub returns : goal.returns
 returns c =
-    let all = total _ _ c.args.theory.now.checked c.requires.numbered c.requires.counted c.root_section.ensures c.roots.ensures.0 c.count_facts-facts.ensures c.pairs-pairs.ensures.0 in
+    let all = total _ _ c.args.theory.now.checked c.requires.numbered c.requires.counted c.root_section.ensures.value c.roots.ensures.0 c.count_facts-facts.ensures c.pairs-pairs.ensures.0 in
     rw (c.and-2.ensures.0, c.and-2.ensures.1, c.and.ensures.0, c.and.ensures.1) (all.0, omega arith)

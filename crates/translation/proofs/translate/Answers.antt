@@ -11,12 +11,12 @@ use Rattle.translation.proofs.translate.Goals as goal
 pub measure-measured-requires : goal.measure-measured-requires
 measure-measured-requires c =
     let nodes = nodes-accepted _ c.args.theory.now.checked in
-    rw (c.atoms.ensures.0, c.node_section.ensures, c.nodes.ensures.0) (nodes, nodes.few)
+    rw (c.atoms.ensures.0, c.node_section.ensures.value, c.nodes.ensures.0) (nodes, nodes.few)
 
 -- what was measured are B and the nodes' rules, and the terms are numbered
 pub count-whole-requires : goal.count-whole-requires
 count-whole-requires c =
-    let measured = rw (c.atoms.ensures.0, c.node_section.ensures, c.nodes.ensures.0) at c.measure-measured.ensures in
+    let measured = rw (c.atoms.ensures.0, c.node_section.ensures.value, c.nodes.ensures.0) at c.measure-measured.ensures in
     record { numbered = measured.numbered_to; counted = measured.all_value.1 }
 
 pub returns-then-out-needed : goal.returns-then-out-needed
@@ -27,7 +27,7 @@ returns-then-out-needed c =
 
 pub write-requires : goal.write-requires
 write-requires c =
-    let measured = rw (c.atoms.ensures.0, c.node_section.ensures, c.nodes.ensures.0) at c.measure-measured.ensures in
+    let measured = rw (c.atoms.ensures.0, c.node_section.ensures.value, c.nodes.ensures.0) at c.measure-measured.ensures in
     let needed = counted_length c.args.packed (flat (book_of c.args.theory.now.image.now)) c.count-whole.ensures.0 c.image_length-needed.ensures in
     record { numbered = measured.numbered_to; size_value = (measured.all_value.0 ∙ sym (flat-size _), c.count-whole.ensures.0.all, needed, c.if-out-needed.false) }
 

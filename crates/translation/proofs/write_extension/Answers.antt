@@ -46,7 +46,7 @@ write_labels-requires c =
     let ok = c.args.theory.now.checked in
     let valued = scratch_values _ _ ok c.requires.0 _ _ c.values.ensures in
     let nodes = nodes-accepted _ ok in
-    rw (c.node_section.ensures, c.nodes.ensures.0) (record {
+    rw (c.node_section.ensures.value, c.nodes.ensures.0) (record {
       nodes = (nodes.few, nodes.long, λ k h. (operands_small _ _ _ nodes k h).1);
       count_in_bounds = turn_room (wrote _ _ _ ok c.requires c.put-at.ensures.value c.put-at.ensures.out_after) (labels_fit _ _ _ ok c.requires _ valued);
     })
@@ -55,6 +55,6 @@ pub returns : goal.returns
 returns c =
     let ok = c.args.theory.now.checked in
     let valued = scratch_values _ _ ok c.requires.0 _ _ c.values.ensures in
-    let labels = rw (c.node_section.ensures, c.nodes.ensures.0) at c.write_labels.ensures in
+    let labels = rw (c.node_section.ensures.value, c.nodes.ensures.0) at c.write_labels.ensures in
     let w = turn (wrote _ _ _ ok c.requires c.put-at.ensures.value c.put-at.ensures.out_after) _ (labels_fit _ _ _ ok c.requires _ valued) labels.value labels.out_after in
     rw (extension_bytes _ _ ok c.requires.0 _ valued) w.bytes

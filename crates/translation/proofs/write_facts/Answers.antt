@@ -4,10 +4,10 @@ use Rattle.program.specs.Literals.{Slotted}
 use Rattle.program.specs.Image.{rules_bytes}
 use Rattle.flat.specs.Flat.{fact, simplify}
 use Rattle.table.specs.OneRule.{decode, made_of, made_bytes}
+use Rattle.table.proofs.OneRule.{fact-few, made_bytes-made_of}
 use Rattle.translation.specs.Turns.{scratch_term}
 use Rattle.translation.proofs.Turns.{facts_to-none, facts_grow}
 use Rattle.translation.proofs.Writing.{written_no_rules, bytes_grow, part_fits, part_written}
-use Rattle.translation.proofs.FromTable.{fact-few, made_bytes-made_of}
 use Rattle.translation.proofs.write_facts.Goals as goal
 
 -- What was made is the root's fact.

@@ -1,7 +1,7 @@
 use Rattle.std.proofs.Common.{◌≡◌, sym, ◌∙◌, List, [], ◌∷◌, ℕ, get_or, take, length-take-le}
 use Rattle.wire.proofs.Laws.{written_none}
 use Rattle.logic.specs.Value.{number, of_byte, negation}
-use Rattle.theory.specs.Book.{Node}
+use Rattle.theory.specs.declared.Node.{Node}
 use Rattle.theory.specs.Image.{node_in}
 use Rattle.flat.specs.Table.{label_count}
 use Rattle.translation.specs.Turns.{label_bytes}

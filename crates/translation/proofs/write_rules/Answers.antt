@@ -50,26 +50,26 @@ module _ (p : Bool) (t scratch old : List ℕ) (ok : none (theory_rows t) ≡ tr
 pub write_nodes-at-requires : goal.write_nodes-at-requires
 write_nodes-at-requires c =
     let room = fit c.args.packed _ _ _ c.args.theory.now.checked c.requires.numbered c.requires.theory_in_bounds in
-    rw (c.atoms.ensures.0, c.node_section.ensures, c.nodes.ensures.0) (record { nodes = (nodes-accepted _ c.args.theory.now.checked, c.requires.numbered); count_in_bounds = omega arith })
+    rw (c.atoms.ensures.0, c.node_section.ensures.value, c.nodes.ensures.0) (record { nodes = (nodes-accepted _ c.args.theory.now.checked, c.requires.numbered); count_in_bounds = omega arith })
 
 pub write_facts-requires : goal.write_facts-requires
 write_facts-requires c =
     let ok = c.args.theory.now.checked in
     let room = fit c.args.packed _ _ _ ok c.requires.numbered c.requires.theory_in_bounds in
-    let nodes = wrote-nodes c.args.packed _ _ _ ok c.requires.numbered c.requires.theory_in_bounds c.atoms.ensures.0 c.node_section.ensures c.nodes.ensures.0 c.write_nodes-at.ensures.value c.write_nodes-at.ensures.out_after in
-    rw (c.root_section.ensures, c.roots.ensures.0) (record { roots = roots-within _ ok; count_in_bounds = turn_room nodes (omega arith) })
+    let nodes = wrote-nodes c.args.packed _ _ _ ok c.requires.numbered c.requires.theory_in_bounds c.atoms.ensures.0 c.node_section.ensures.value c.nodes.ensures.0 c.write_nodes-at.ensures.value c.write_nodes-at.ensures.out_after in
+    rw (c.root_section.ensures.value, c.roots.ensures.0) (record { roots = roots-within _ ok; count_in_bounds = turn_room nodes (omega arith) })
 
 pub write_pairs-requires : goal.write_pairs-requires
 write_pairs-requires c =
     let ok = c.args.theory.now.checked in
-    let nodes = wrote-nodes c.args.packed _ _ _ ok c.requires.numbered c.requires.theory_in_bounds c.atoms.ensures.0 c.node_section.ensures c.nodes.ensures.0 c.write_nodes-at.ensures.value c.write_nodes-at.ensures.out_after in
-    let facts = wrote-facts c.args.packed _ _ _ ok c.requires.numbered c.requires.theory_in_bounds nodes c.root_section.ensures c.roots.ensures.0 c.write_facts.ensures.value c.write_facts.ensures.out_after in
-    rw (c.pair_section.ensures, c.pairs.ensures.0) (record { count_in_bounds = pairs-long _ ok; pairs_in_bounds = turn_room facts (fit-pairs c.args.packed _ _ _ ok c.requires.numbered c.requires.theory_in_bounds) })
+    let nodes = wrote-nodes c.args.packed _ _ _ ok c.requires.numbered c.requires.theory_in_bounds c.atoms.ensures.0 c.node_section.ensures.value c.nodes.ensures.0 c.write_nodes-at.ensures.value c.write_nodes-at.ensures.out_after in
+    let facts = wrote-facts c.args.packed _ _ _ ok c.requires.numbered c.requires.theory_in_bounds nodes c.root_section.ensures.value c.roots.ensures.0 c.write_facts.ensures.value c.write_facts.ensures.out_after in
+    rw (c.pair_section.ensures.value, c.pairs.ensures.0) (record { count_in_bounds = pairs-long _ ok; pairs_in_bounds = turn_room facts (fit-pairs c.args.packed _ _ _ ok c.requires.numbered c.requires.theory_in_bounds) })
 
 pub returns : goal.returns
 returns c =
     let ok = c.args.theory.now.checked in
-    let nodes = wrote-nodes c.args.packed _ _ _ ok c.requires.numbered c.requires.theory_in_bounds c.atoms.ensures.0 c.node_section.ensures c.nodes.ensures.0 c.write_nodes-at.ensures.value c.write_nodes-at.ensures.out_after in
-    let facts = wrote-facts c.args.packed _ _ _ ok c.requires.numbered c.requires.theory_in_bounds nodes c.root_section.ensures c.roots.ensures.0 c.write_facts.ensures.value c.write_facts.ensures.out_after in
-    let w = wrote-pairs c.args.packed _ _ _ ok c.requires.numbered c.requires.theory_in_bounds facts c.pair_section.ensures c.pairs.ensures.0 c.write_pairs.ensures.value c.write_pairs.ensures.out_after in
+    let nodes = wrote-nodes c.args.packed _ _ _ ok c.requires.numbered c.requires.theory_in_bounds c.atoms.ensures.0 c.node_section.ensures.value c.nodes.ensures.0 c.write_nodes-at.ensures.value c.write_nodes-at.ensures.out_after in
+    let facts = wrote-facts c.args.packed _ _ _ ok c.requires.numbered c.requires.theory_in_bounds nodes c.root_section.ensures.value c.roots.ensures.0 c.write_facts.ensures.value c.write_facts.ensures.out_after in
+    let w = wrote-pairs c.args.packed _ _ _ ok c.requires.numbered c.requires.theory_in_bounds facts c.pair_section.ensures.value c.pairs.ensures.0 c.write_pairs.ensures.value c.write_pairs.ensures.out_after in
     rw (accepted_bytes _ ok c.args.packed c.args.terms.now c.requires.numbered) (record { value = w.end; out_after = w.bytes })
