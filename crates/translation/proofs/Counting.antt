@@ -47,37 +47,6 @@ counted_made r c is few e f g =
     let part : Counted (simplify r) (made_count (made_of r)) (made_literals (made_of r)) = record { all = made_count-made_of r; each = made_literals-made_of r; few = rw is at few } in
     rw (e, f, is) (counted_more c part g)
 
--- Where x, y, L and M are all names every row's rule stays with all its literals: a kind has as many as its rows.
-module _ (terms : List ℕ) (all : all_names terms ≡ true) where
-  counted_rows : (rs : List (RuleOf Slot)) → (length (instances (filled terms) rs) ≡ length rs) × (literal_total (instances (filled terms) rs) ≡ rows_literals rs)
-  counted_rows [] = (refl, refl)
-  counted_rows (r ∷ rs) =
-      let more = counted_rows rs in
-      (rw (removes-filled terms all r) (ap suc more.0), literal_total-append (simplify (map_rule (filled terms) r)) (instances (filled terms) rs) ∙ omega (arith, literals-filled terms all r, more.1))
-
-  pub counted_names : (kind : Kind) → Counted (kind_rules terms kind) (length (kind_shapes kind)) (rows_literals (rows kind))
-  counted_names kind =
-      let same = counted_rows (rows kind) in
-      record { all = as_many kind ∙ sym same.0; each = sym same.1; few = few kind }
-    where
-      as_many : (kind : Kind) → length (kind_shapes kind) ≡ length (rows kind)
-      as_many False = refl
-      as_many True = refl
-      as_many Atom = refl
-      as_many Not = refl
-      as_many And = refl
-      as_many Or = refl
-      as_many Implies = refl
-
-      few : (kind : Kind) → rows_literals (rows kind) ≤ length (kind_shapes kind) * 3
-      few False = omega arith
-      few True = omega arith
-      few Atom = omega arith
-      few Not = omega arith
-      few And = omega arith
-      few Or = omega arith
-      few Implies = omega arith
-
 -- A pair's rule has two literals.
 pub counted_pairs : (s : List ℕ) (n : ℕ) → Counted (pairs_to s n) n (n * 2)
 unfolding up_to

@@ -232,8 +232,8 @@ fn write_facts(
     ensures out_after { out.new ≡ over (rules_bytes packed (facts_to (scratch_term terms.now) roots.now count)) out.old }
 {
     let mut at = 0;
-    for i in 0..count {
-        let term = terms[theory::root_at(roots, i)];
+    for root in 0..count {
+        let term = terms[theory::root_at(roots, root)];
         at += table::put_rule(&mut out[at..], packed, &table::fact_of(usize::from(term)));
     }
     at
@@ -410,8 +410,9 @@ pub fn extend(theory: &Theory, reading: &[u8], out: &mut [u8]) -> Result<usize, 
     ensures value { answer_of result ≡ answer (extend_rows theory.now.image.now reading.now (length out.old)) (size_of theory.now.image.now) }
     ensures out_after { out.new ≡ extended theory.now.image.now reading.now out.old }
 {
-    refusal::reading(reading, theory.atoms())?;
-    let all = size(theory.node_section(), theory.nodes(), theory.atoms());
+    let atoms = theory.atoms();
+    refusal::reading(reading, atoms)?;
+    let all = size(theory.node_section(), theory.nodes(), atoms);
     if out.len() < all {
         return Err(Refusal::Room { needed: all });
     }

@@ -26,6 +26,11 @@ overflow_cast-terms c =
 pub slot_terms-requires : goal.slot_terms-requires
 slot_terms-requires c = turn_small _ _ _ c.requires.0 _ c.loop-k-test.true c.node_at-node.ensures.value c.loop-k.invariant.next
 
+pub and-counts-requires : goal.and-counts-requires
+and-counts-requires c =
+    let few = kind-rules (filled c.slot_terms.result.numbers) c.node_at-node.result.kind in
+    (omega (arith, few, c.count_node.ensures.all), omega (arith, few, c.count_node.ensures.all))
+
 pub overflow_add-all : goal.overflow_add-all
 overflow_add-all c = omega (arith, next_low _ _ _ c.requires.0 c.loop-k.k (omega arith))
 

@@ -10,7 +10,7 @@ use Rattle.program.specs.Image.{rules_bytes}
 use Rattle.flat.specs.Flat.{flat}
 use Rattle.translation.specs.Turns.{rules_to, facts_to, pairs_to, scratch_term, Numbered}
 use Rattle.translation.proofs.Writing.{written-first}
-use Rattle.translation.proofs.Sections.{nodes-accepted, roots-within, pairs-long, accepted_bytes, accepted_fit}
+use Rattle.translation.proofs.Sections.{nodes-accepted, roots-within, accepted_bytes, accepted_fit}
 use Rattle.translation.proofs.write_rules.Goals as goal
 
 -- The bytes of the three parts of an accepted image's rules, which fit into an output.
@@ -59,12 +59,12 @@ write_facts-requires c =
     let nodes = wrote-nodes c.args.packed _ _ _ ok c.requires.numbered c.requires.theory_in_bounds c.atoms.ensures.0 c.node_section.ensures.value c.nodes.ensures.0 c.write_nodes-at.ensures.value c.write_nodes-at.ensures.out_after in
     rw (c.root_section.ensures.value, c.roots.ensures.0) (record { roots = roots-within _ ok; count_in_bounds = turn_room nodes (omega arith) })
 
-pub write_pairs-requires : goal.write_pairs-requires
-write_pairs-requires c =
+pub write_pairs-requires-clause-pairs_in_bounds : goal.write_pairs-requires-clause-pairs_in_bounds
+write_pairs-requires-clause-pairs_in_bounds c =
     let ok = c.args.theory.now.checked in
     let nodes = wrote-nodes c.args.packed _ _ _ ok c.requires.numbered c.requires.theory_in_bounds c.atoms.ensures.0 c.node_section.ensures.value c.nodes.ensures.0 c.write_nodes-at.ensures.value c.write_nodes-at.ensures.out_after in
     let facts = wrote-facts c.args.packed _ _ _ ok c.requires.numbered c.requires.theory_in_bounds nodes c.root_section.ensures.value c.roots.ensures.0 c.write_facts.ensures.value c.write_facts.ensures.out_after in
-    rw (c.pair_section.ensures.value, c.pairs.ensures.0) (record { count_in_bounds = pairs-long _ ok; pairs_in_bounds = turn_room facts (fit-pairs c.args.packed _ _ _ ok c.requires.numbered c.requires.theory_in_bounds) })
+    rw (c.pair_section.ensures.value, c.pairs.ensures.0) (turn_room facts (fit-pairs c.args.packed _ _ _ ok c.requires.numbered c.requires.theory_in_bounds))
 
 pub returns : goal.returns
 returns c =
