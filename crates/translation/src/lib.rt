@@ -222,8 +222,8 @@ fn write_facts(
     ensures out_after { out.new ≡ over (rules_bytes packed (facts_of_roots terms.now theory.now.image.now)) out.old }
 {
     let mut at = 0;
-    for i in 0..theory.roots() {
-        let term = terms[theory.root(i)];
+    for root in 0..theory.roots() {
+        let term = terms[theory.root(root)];
         at += table::put_rule(&mut out[at..], packed, &table::fact_of(usize::from(term)));
     }
     at
@@ -364,7 +364,8 @@ pub fn extend(theory: &Theory, reading: &[u8], out: &mut [u8]) -> Result<usize, 
     ensures value { answer_of result ≡ answer (extend_rows theory.now.image.now reading.now (length out.old)) (size_of theory.now.image.now) }
     ensures out_after { out.new ≡ extended theory.now.image.now reading.now out.old }
 {
-    refusal::reading(reading, theory.atoms())?;
+    let atoms = theory.atoms();
+    refusal::reading(reading, atoms)?;
     let all = size(theory);
     if out.len() < all {
         return Err(Refusal::Room { needed: all });

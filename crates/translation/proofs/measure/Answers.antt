@@ -27,6 +27,11 @@ overflow_cast-terms c =
     let is = rw (c.loop-k.invariant.next, c.node-node.ensures.value) at c.term_of.ensures in
     record { fits = rw is (code_small _ _ _ (nodes-accepted _ c.args.theory.now.checked) _ (omega arith)) }
 
+pub and-counts-requires : goal.and-counts-requires
+and-counts-requires c =
+    let few = kind-rules (filled c.slot_terms.result.numbers) c.node-node.result.kind in
+    (omega (arith, few, c.count_node.ensures.all), omega (arith, few, c.count_node.ensures.all))
+
 pub overflow_add-all : goal.overflow_add-all
 overflow_add-all c = omega (arith, next_low _ _ _ (nodes-accepted _ c.args.theory.now.checked) c.loop-k.k (omega arith))
 

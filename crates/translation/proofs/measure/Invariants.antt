@@ -1,5 +1,5 @@
 -- `measure` numbers and counts in one pass: before each turn the scratch begins with the numbers of the terms of the nodes passed, `all` is the label behind theirs, and their rules are counted. Assumes nothing.
-use Rattle.std.proofs.Common.{◌≡◌, ◌*◌, ◌≤◌, length}
+use Rattle.std.proofs.Common.{◌≡◌, ◌*◌, ◌≤◌}
 use Rattle.theory.specs.Image.{atom_count, node_section}
 use Rattle.translation.specs.Turns.{next_to, rules_to, Counted, NumberedTo}
 use Rattle.translation.proofs.measure.Given as goal

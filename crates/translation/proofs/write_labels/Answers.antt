@@ -19,9 +19,11 @@ loop-k-init c = rw labels_to-none (written_none _)
 
 pub put_labels-at-requires : goal.put_labels-at-requires
 put_labels-at-requires c =
-    let few = c.label_count-labels.ensures.1 in
-    (few, rw length-take-le at (part_fits (labels_grow _ _) c.loop-k.invariant (omega arith) c.requires
-    (bytes-are c.args.values.now (node_section c.args.theory.now.image.now) c.loop-k.k _ _ c.node-node.ensures.value c.label_count-labels.ensures.0)))
+    let few = c.label_count-labels.ensures.1 in (
+      few,
+      rw length-take-le at (part_fits (labels_grow _ _) c.loop-k.invariant (omega arith) c.requires
+          (bytes-are c.args.values.now (node_section c.args.theory.now.image.now) c.loop-k.k _ _ c.node-node.ensures.value c.label_count-labels.ensures.0)),
+    )
 
 pub loop-k-preserved : goal.loop-k-preserved
 loop-k-preserved c =
