@@ -1,4 +1,3 @@
-pub mod FromTable
 pub mod Turns
 pub mod Counting
 pub mod NodeTerms

@@ -24,7 +24,7 @@ use Rattle.flat.specs.Flat.{Term, constant, name, fill, instances, term_at, node
 use Rattle.flat.proofs.ByKind.{label_count_le, operands}
 use Rattle.flat.proofs.Sizes.{label_total_le}
 use Rattle.table.specs.OneRule.{false_term, code, decode, filled}
-use Rattle.translation.proofs.FromTable.{Below, decode-code}
+use Rattle.table.proofs.OneRule.{Below, decode-code}
 use Rattle.translation.specs.Turns.{Nodes, next_to, terms_to, slot_terms, kind_rules, NumberedTo}
 use Rattle.translation.proofs.Turns.{next_to_more, terms_to-none, terms_to_more, length-terms_to}
 

@@ -2,7 +2,7 @@
 use mathlib.Core.Path.{◌≡◌}
 use mathlib.Core.Bool.{Bool, true}
 use mathlib.Core.List.{List, ◌++◌}
-use Prim.Native.Nat.{ℕ, ◌+◌, ◌*◌, ◌≤◌}
+use Prim.Native.Nat.{ℕ, ◌+◌, ◌≤◌}
 use native.Mathlib.Omega.{arith}
 use lib.ListN.{length, length-drop, length-append}
 use Rattle.refusal.specs.Limits.{most_nodes}
@@ -36,9 +36,6 @@ module _ (t : List ℕ) (ok : none (theory_rows t) ≡ true) where
   roots-within =
       let r = roots-accepted in
       record { few = r.few; long = r.long; below = λ i h. omega (arith, r.below i h, nodes-accepted.few) }
-
-  pub pairs-long : pair_count t * 4 ≤ length (pair_section t)
-  pairs-long = rw length-drop (omega (arith, (accepted t ok).header.whole))
 
   -- The rules of the program are those of the nodes, the facts of the roots, by the terms in the scratch, and those of the pairs.
   pub accepted-rules : (scratch : List ℕ) → Numbered t scratch

@@ -31,7 +31,7 @@ use Rattle.program.proofs.Reading.{image_of-accepted, program_of-image_of, image
 use Rattle.flat.specs.Table.{Slot, x, y, L, M, rows, label_count}
 use Rattle.flat.specs.Flat.{Term, constant, name, names, removes, reduce, simplify, fill, fact, map_rule, instances, term_at, pair_rule, flat, largest_b}
 use Rattle.flat.proofs.Sizes.{size_bound}
-use Rattle.translation.proofs.FromTable.{Below, length-names}
+use Rattle.table.proofs.OneRule.{Below, length-names}
 use Rattle.translation.specs.Outcome.{size_of, rule_total}
 use Rattle.translation.specs.Turns.{Nodes, next_to, terms_to, rules_to, facts_to, pairs_to}
 use Rattle.translation.proofs.Turns.{next_to-none, next_to_more, rules_to-none, rules_grow, facts_to-none, facts_grow, flat-size, flat-rules}

@@ -5,7 +5,7 @@ use Rattle.wire.specs.Sequence.{up_to}
 use Rattle.logic.specs.Value.{number, of_byte, negation}
 use Rattle.theory.specs.declared.Kind.{Kind}
 use Rattle.theory.specs.declared.Node.{Node}
-use Rattle.theory.specs.Image.{atom_count, node_count, node_section, node_in, breaks, root_in, pair_in}
+use Rattle.theory.specs.Image.{atom_count, node_count, root_count, pair_count, node_section, root_section, pair_section, node_in, breaks, root_in, pair_in}
 use Rattle.program.specs.Rule.{Rule}
 use Rattle.program.specs.Image.{literal_total}
 use Rattle.flat.specs.Table.{rows, label_count}
@@ -61,6 +61,18 @@ pairs_to s = up_to (λ j. pair_rule (pair_in s j))
 abbrev pub scratch_term : (scratch : List ℕ) → ℕ → Term
 scratch_term scratch k = decode (get_or scratch k 0)
 
+-- The rules of all nodes of a theory image,
+abbrev pub rules_of_nodes : (t : List ℕ) → List Rule
+rules_of_nodes t = rules_to (atom_count t) (node_section t) (node_count t)
+
+-- the facts of its roots, where the terms' numbers stand in a scratch,
+abbrev pub facts_of_roots : (scratch t : List ℕ) → List Rule
+facts_of_roots scratch t = facts_to (scratch_term scratch) (root_section t) (root_count t)
+
+-- and the rules of its pairs.
+abbrev pub rules_of_pairs : (t : List ℕ) → List Rule
+rules_of_pairs t = pairs_to (pair_section t) (pair_count t)
+
 -- The numbers of x, y, L and M of a node whose labels start at `next`, where the terms' numbers stand in a scratch, and behind them 0.
 abbrev pub slot_terms : (scratch : List ℕ) → (next : ℕ) → Node → List ℕ
 slot_terms scratch next n = get_or scratch n.left 0 ∷ get_or scratch n.right 0 ∷ next ∷ (next + 1) ∷ 0 ∷ []
@@ -96,3 +108,7 @@ label_bytes values s k =
 unfoldable pub labels_to : (values : List ℕ) → (s : List ℕ) → (k : ℕ) → List ℕ
 labels_to values s zero = []
 labels_to values s (suc k) = labels_to values s k ++ label_bytes values s k
+
+-- and those of the labels of all nodes of a theory image.
+abbrev pub label_values : (values t : List ℕ) → List ℕ
+label_values values t = labels_to values (node_section t) (node_count t)

@@ -15,7 +15,7 @@ ghost use Rattle.flat.specs.Table.{label_count};
 ghost use Rattle.flat.specs.Flat.{term, flat};
 ghost use Rattle.flat.specs.Extension.{extend as extension};
 ghost use Rattle.table.specs.OneRule.{code, made_count, made_literals};
-ghost use Rattle.translation.specs.Turns.{Nodes, Roots, next_to, rules_to, facts_to, pairs_to, scratch_term, slot_terms, kind_rules, Counted, NumberedTo, Numbered, labels_to};
+ghost use Rattle.translation.specs.Turns.{rules_of_nodes, facts_of_roots, rules_of_pairs, slot_terms, kind_rules, Counted, Numbered, label_values};
 ghost use Rattle.translation.specs.Outcome.{size_of, rule_total, translate_rows, translated, extend_rows, extended};
 
 use logic::Value;
@@ -67,13 +67,12 @@ struct Totals {
 }
 
 // B: the atoms, and the labels of all nodes.
-fn size(nodes: &[u8], count: usize, atoms: usize) -> usize
-    requires { Nodes atoms nodes.now count }
-    ensures { result ≡ next_to atoms nodes.now count }
+fn size(theory: &Theory) -> usize
+    ensures { result ≡ size_of theory.now.image.now }
 {
-    let mut next = atoms;
-    for k in 0..count {
-        next += table::label_count(theory::node_at(nodes, k).kind);
+    let mut next = theory.atoms();
+    for k in 0..theory.nodes() {
+        next += table::label_count(theory.node(k).kind);
     }
     next
 }
@@ -136,23 +135,19 @@ fn count_rows(kind: Kind, terms: &Terms) -> Counts
 }
 
 // Measures the nodes in one pass: each node's term goes into `terms`, labels being numbered from A upward, and its rules are counted.
-fn measure(
-    nodes: &[u8],
-    count: usize,
-    atoms: usize,
-    terms: &mut [u16; refusal::MOST_NODES],
-) -> Totals
-    requires { Nodes atoms nodes.now count × (count ≤ length terms.old) }
-    ensures all_value { (result.all ≡ next_to atoms nodes.now count) × Counted (rules_to atoms nodes.now count) result.counts.rules result.counts.literals }
-    ensures numbered_to { NumberedTo atoms nodes.now count terms.new }
+fn measure(theory: &Theory, terms: &mut [u16; refusal::MOST_NODES]) -> Totals
+    requires { length terms.old ≡ most_nodes }
+    ensures all_value { result.all ≡ size_of theory.now.image.now }
+    ensures counted { Counted (rules_of_nodes theory.now.image.now) result.counts.rules result.counts.literals }
+    ensures numbered { Numbered theory.now.image.now terms.new }
 {
-    let mut all = atoms;
+    let mut all = theory.atoms();
     let mut counts = Counts {
         rules: 0,
         literals: 0,
     };
-    for k in 0..count {
-        let node = theory::node_at(nodes, k);
+    for k in 0..theory.nodes() {
+        let node = theory.node(k);
         terms[k] = term_of(node, all) as u16;
         counts = counts.and(count_node(node.kind, &slot_terms(node, terms, all)));
         all += table::label_count(node.kind);
@@ -161,16 +156,15 @@ fn measure(
 }
 
 // Counts the facts of the roots.
-fn count_facts(roots: &[u8], count: usize, terms: &[u16; refusal::MOST_NODES]) -> Counts
-    requires { Roots most_nodes roots.now count }
-    ensures { Counted (facts_to (scratch_term terms.now) roots.now count) result.rules result.literals }
+fn count_facts(theory: &Theory, terms: &[u16; refusal::MOST_NODES]) -> Counts
+    ensures { Counted (facts_of_roots terms.now theory.now.image.now) result.rules result.literals }
 {
     let mut counts = Counts {
         rules: 0,
         literals: 0,
     };
-    for i in 0..count {
-        let term = terms[theory::root_at(roots, i)];
+    for i in 0..theory.roots() {
+        let term = terms[theory.root(i)];
         counts = counts.with(&table::fact_of(usize::from(term)));
     }
     counts
@@ -193,20 +187,18 @@ fn write_node(out: &mut [u8], packed: bool, kind: Kind, terms: &Terms) -> usize
 fn write_nodes(
     out: &mut [u8],
     packed: bool,
-    nodes: &[u8],
-    count: usize,
-    atoms: usize,
+    theory: &Theory,
     terms: &[u16; refusal::MOST_NODES],
 ) -> usize
-    requires nodes { Nodes atoms nodes.now count × NumberedTo atoms nodes.now count terms.now }
-    requires count_in_bounds { length (rules_bytes packed (rules_to atoms nodes.now count)) ≤ length out.old }
-    ensures value { result ≡ length (rules_bytes packed (rules_to atoms nodes.now count)) }
-    ensures out_after { out.new ≡ over (rules_bytes packed (rules_to atoms nodes.now count)) out.old }
+    requires numbered { Numbered theory.now.image.now terms.now }
+    requires room { length (rules_bytes packed (rules_of_nodes theory.now.image.now)) ≤ length out.old }
+    ensures value { result ≡ length (rules_bytes packed (rules_of_nodes theory.now.image.now)) }
+    ensures out_after { out.new ≡ over (rules_bytes packed (rules_of_nodes theory.now.image.now)) out.old }
 {
-    let mut next = atoms;
+    let mut next = theory.atoms();
     let mut at = 0;
-    for k in 0..count {
-        let node = theory::node_at(nodes, k);
+    for k in 0..theory.nodes() {
+        let node = theory.node(k);
         at += write_node(
             &mut out[at..],
             packed,
@@ -222,33 +214,30 @@ fn write_nodes(
 fn write_facts(
     out: &mut [u8],
     packed: bool,
-    roots: &[u8],
-    count: usize,
+    theory: &Theory,
     terms: &[u16; refusal::MOST_NODES],
 ) -> usize
-    requires roots { Roots most_nodes roots.now count }
-    requires count_in_bounds { length (rules_bytes packed (facts_to (scratch_term terms.now) roots.now count)) ≤ length out.old }
-    ensures value { result ≡ length (rules_bytes packed (facts_to (scratch_term terms.now) roots.now count)) }
-    ensures out_after { out.new ≡ over (rules_bytes packed (facts_to (scratch_term terms.now) roots.now count)) out.old }
+    requires { length (rules_bytes packed (facts_of_roots terms.now theory.now.image.now)) ≤ length out.old }
+    ensures value { result ≡ length (rules_bytes packed (facts_of_roots terms.now theory.now.image.now)) }
+    ensures out_after { out.new ≡ over (rules_bytes packed (facts_of_roots terms.now theory.now.image.now)) out.old }
 {
     let mut at = 0;
-    for i in 0..count {
-        let term = terms[theory::root_at(roots, i)];
+    for root in 0..theory.roots() {
+        let term = terms[theory.root(root)];
         at += table::put_rule(&mut out[at..], packed, &table::fact_of(usize::from(term)));
     }
     at
 }
 
 // Writes a rule for each pair over the start of `out`: ← first, second.
-fn write_pairs(out: &mut [u8], packed: bool, pairs: &[u8], count: usize) -> usize
-    requires count_in_bounds { count * 4 ≤ length pairs.now }
-    requires pairs_in_bounds { length (rules_bytes packed (pairs_to pairs.now count)) ≤ length out.old }
-    ensures value { result ≡ length (rules_bytes packed (pairs_to pairs.now count)) }
-    ensures out_after { out.new ≡ over (rules_bytes packed (pairs_to pairs.now count)) out.old }
+fn write_pairs(out: &mut [u8], packed: bool, theory: &Theory) -> usize
+    requires { length (rules_bytes packed (rules_of_pairs theory.now.image.now)) ≤ length out.old }
+    ensures value { result ≡ length (rules_bytes packed (rules_of_pairs theory.now.image.now)) }
+    ensures out_after { out.new ≡ over (rules_bytes packed (rules_of_pairs theory.now.image.now)) out.old }
 {
     let mut at = 0;
-    for i in 0..count {
-        let pair = theory::pair_at(pairs, i);
+    for i in 0..theory.pairs() {
+        let pair = theory.pair(i);
         let rule = Rule {
             heads: 0,
             positives: 2,
@@ -263,10 +252,10 @@ fn write_pairs(out: &mut [u8], packed: bool, pairs: &[u8], count: usize) -> usiz
 // Counts all rules: those of the nodes, which are measured already, the facts of the roots, and a rule of two literals for each pair.
 fn count(theory: &Theory, terms: &[u16; refusal::MOST_NODES], nodes: Counts) -> Counts
     requires numbered { Numbered theory.now.image.now terms.now }
-    requires counted { Counted (rules_to (atom_count theory.now.image.now) (node_section theory.now.image.now) (node_count theory.now.image.now)) nodes.rules nodes.literals }
+    requires counted { Counted (rules_of_nodes theory.now.image.now) nodes.rules nodes.literals }
     ensures { Counted (flat (book_of theory.now.image.now)).rules result.rules result.literals × (result.rules ≤ most_rules) }
 {
-    let facts = count_facts(theory.root_section(), theory.roots(), terms);
+    let facts = count_facts(theory, terms);
     let pairs = theory.pairs();
     nodes.and(facts).and(Counts {
         rules: pairs,
@@ -286,28 +275,9 @@ fn write_rules(
     ensures value { result ≡ length (rules_bytes packed (flat (book_of theory.now.image.now)).rules) }
     ensures out_after { out.new ≡ over (rules_bytes packed (flat (book_of theory.now.image.now)).rules) out.old }
 {
-    let at = write_nodes(
-        out,
-        packed,
-        theory.node_section(),
-        theory.nodes(),
-        theory.atoms(),
-        terms,
-    );
-    let end = at
-        + write_facts(
-            &mut out[at..],
-            packed,
-            theory.root_section(),
-            theory.roots(),
-            terms,
-        );
-    end + write_pairs(
-        &mut out[end..],
-        packed,
-        theory.pair_section(),
-        theory.pairs(),
-    )
+    let at = write_nodes(out, packed, theory, terms);
+    let end = at + write_facts(&mut out[at..], packed, theory, terms);
+    end + write_pairs(&mut out[end..], packed, theory)
 }
 
 // Writes the program's image over the start of `out`: the rules, and the header last.
@@ -335,12 +305,7 @@ pub fn translate(theory: &Theory, packed: bool, out: &mut [u8]) -> Result<usize,
     ensures out_after { out.new ≡ translated packed theory.now.image.now out.old }
 {
     let mut terms = [0u16; refusal::MOST_NODES];
-    let measured = measure(
-        theory.node_section(),
-        theory.nodes(),
-        theory.atoms(),
-        &mut terms,
-    );
+    let measured = measure(theory, &mut terms);
     let whole = count(theory, &terms, measured.counts);
     let needed = program::image_length(packed, whole.rules, whole.literals);
     if out.len() < needed {
@@ -369,20 +334,14 @@ fn put_labels(out: &mut [u8], labels: usize, value: u8, right: u8) -> usize
 }
 
 // Writes the labels of all nodes over the start of `out`, each node's into the unwritten rest; `values` holds the nodes' values.
-fn write_labels(
-    out: &mut [u8],
-    nodes: &[u8],
-    count: usize,
-    values: &[u8; refusal::MOST_NODES],
-) -> usize
-    requires nodes { (count ≤ most_nodes) × (count * 6 ≤ length nodes.now) × ((k : ℕ) → k < count → (node_in nodes.now k).right < most_nodes) }
-    requires count_in_bounds { length (labels_to values.now nodes.now count) ≤ length out.old }
-    ensures value { result ≡ length (labels_to values.now nodes.now count) }
-    ensures out_after { out.new ≡ over (labels_to values.now nodes.now count) out.old }
+fn write_labels(out: &mut [u8], theory: &Theory, values: &[u8; refusal::MOST_NODES]) -> usize
+    requires { length (label_values values.now theory.now.image.now) ≤ length out.old }
+    ensures value { result ≡ length (label_values values.now theory.now.image.now) }
+    ensures out_after { out.new ≡ over (label_values values.now theory.now.image.now) out.old }
 {
     let mut at = 0;
-    for k in 0..count {
-        let node = theory::node_at(nodes, k);
+    for k in 0..theory.nodes() {
+        let node = theory.node(k);
         let labels = table::label_count(node.kind);
         at += put_labels(&mut out[at..], labels, values[k], values[node.right]);
     }
@@ -397,12 +356,7 @@ fn write_extension(theory: &Theory, reading: &[u8], out: &mut [u8])
     let mut scratch = [0u8; refusal::MOST_NODES];
     theory.values(reading, &mut scratch);
     let at = wire::put(out, reading);
-    write_labels(
-        &mut out[at..],
-        theory.node_section(),
-        theory.nodes(),
-        &scratch,
-    );
+    write_labels(&mut out[at..], theory, &scratch);
 }
 
 // The extension of a reading to the labels of a theory image: rows 9, 10 and 8 first, and B bytes where none applies.
@@ -410,8 +364,9 @@ pub fn extend(theory: &Theory, reading: &[u8], out: &mut [u8]) -> Result<usize, 
     ensures value { answer_of result ≡ answer (extend_rows theory.now.image.now reading.now (length out.old)) (size_of theory.now.image.now) }
     ensures out_after { out.new ≡ extended theory.now.image.now reading.now out.old }
 {
-    refusal::reading(reading, theory.atoms())?;
-    let all = size(theory.node_section(), theory.nodes(), theory.atoms());
+    let atoms = theory.atoms();
+    refusal::reading(reading, atoms)?;
+    let all = size(theory);
     if out.len() < all {
         return Err(Refusal::Room { needed: all });
     }

@@ -1,14 +1,14 @@
 use Rattle.std.proofs.Common.{◌≡◌, length, arith}
+use Rattle.table.proofs.Shapes.{kind_fillable}
 use Rattle.translation.proofs.Turns.{rows_to-none, rows_grow, rows_to-all}
 use Rattle.translation.proofs.Counting.{counted_none, counted_made}
-use Rattle.translation.proofs.FromTable.{shape_fillable}
 use Rattle.translation.proofs.count_rows.Goals as goal
 
 pub loop-shape-init : goal.loop-shape-init
 loop-shape-init c = (counted_none (rows_to-none _ _), omega arith)
 
 pub make-requires : goal.make-requires
-make-requires c = rw c.rows-shape-items.ensures (shape_fillable c.args.kind c.loop-shape.shape-index (rw c.rows-shape-items.ensures at c.loop-shape-test.true))
+make-requires c = rw c.rows-shape-items.ensures (kind_fillable c.args.kind c.loop-shape.shape-index (rw c.rows-shape-items.ensures at c.loop-shape-test.true))
 
 -- what is counted is what stays of the row's rule
 pub loop-shape-preserved : goal.loop-shape-preserved

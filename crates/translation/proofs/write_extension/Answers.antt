@@ -10,8 +10,7 @@ use Rattle.theory.specs.Image.{atom_count, node_count, node_section}
 use Rattle.theory.specs.Rows.{theory_rows}
 use Rattle.theory.specs.NodeValues.{values_to}
 use Rattle.translation.specs.Outcome.{size_of}
-use Rattle.translation.specs.Turns.{labels_to}
-use Rattle.translation.proofs.NodeTerms.{operands_small}
+use Rattle.translation.specs.Turns.{label_values}
 use Rattle.translation.proofs.Sections.{nodes-accepted}
 use Rattle.translation.proofs.Labels.{atoms-book_of, reading-long, scratch_values, extension_bytes, length_extension}
 use Rattle.translation.proofs.Writing.{written-first}
@@ -29,9 +28,9 @@ module _ (t r old : List ℕ) (ok : none (theory_rows t) ≡ true) (fine : (none
 
   -- and where a scratch has the nodes' values, the labels fit behind it.
   labels_fit : (scratch : List ℕ) → take (node_count t) scratch ≡ map number (values_to (reading_of r) (node_section t) (node_count t))
-      → length r + length (labels_to scratch (node_section t) (node_count t)) ≤ length old
+      → length r + length (label_values scratch t) ≤ length old
   labels_fit scratch valued =
-      omega (arith, length_extension t r ok fine.0, ap length (extension_bytes t r ok fine.0 scratch valued), length-append r (labels_to scratch (node_section t) (node_count t)))
+      omega (arith, length_extension t r ok fine.0, ap length (extension_bytes t r ok fine.0 scratch valued), length-append r (label_values scratch t))
 
 pub values-requires : goal.values-requires
 values-requires c =
@@ -45,16 +44,12 @@ pub write_labels-requires : goal.write_labels-requires
 write_labels-requires c =
     let ok = c.args.theory.now.checked in
     let valued = scratch_values _ _ ok c.requires.0 _ _ c.values.ensures in
-    let nodes = nodes-accepted _ ok in
-    rw (c.node_section.ensures, c.nodes.ensures.0) (record {
-      nodes = (nodes.few, nodes.long, λ k h. (operands_small _ _ _ nodes k h).1);
-      count_in_bounds = turn_room (wrote _ _ _ ok c.requires c.put-at.ensures.value c.put-at.ensures.out_after) (labels_fit _ _ _ ok c.requires _ valued);
-    })
+    turn_room (wrote _ _ _ ok c.requires c.put-at.ensures.value c.put-at.ensures.out_after) (labels_fit _ _ _ ok c.requires _ valued)
 
 pub returns : goal.returns
 returns c =
     let ok = c.args.theory.now.checked in
     let valued = scratch_values _ _ ok c.requires.0 _ _ c.values.ensures in
-    let labels = rw (c.node_section.ensures, c.nodes.ensures.0) at c.write_labels.ensures in
+    let labels = c.write_labels.ensures in
     let w = turn (wrote _ _ _ ok c.requires c.put-at.ensures.value c.put-at.ensures.out_after) _ (labels_fit _ _ _ ok c.requires _ valued) labels.value labels.out_after in
     rw (extension_bytes _ _ ok c.requires.0 _ valued) w.bytes

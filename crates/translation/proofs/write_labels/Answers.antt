@@ -1,8 +1,12 @@
-use Rattle.std.proofs.Common.{◌≡◌, sym, ◌∙◌, List, [], ◌∷◌, ℕ, get_or, take, length-take-le}
+use Rattle.std.proofs.Common.{◌≡◌, sym, ◌∙◌, arith, List, [], ◌∷◌, ℕ, get_or, take, length-take-le}
 use Rattle.wire.proofs.Laws.{written_none}
 use Rattle.logic.specs.Value.{number, of_byte, negation}
 use Rattle.theory.specs.declared.Node.{Node}
+<<<<<<< HEAD
 use Rattle.theory.specs.Image.{node_in}
+=======
+use Rattle.theory.specs.Image.{node_section, node_in}
+>>>>>>> 61a6fcd81301be234a178942562c72d6d615f4f6
 use Rattle.flat.specs.Table.{label_count}
 use Rattle.translation.specs.Turns.{label_bytes}
 use Rattle.translation.proofs.Turns.{labels_to-none, labels_grow}
@@ -19,12 +23,14 @@ loop-k-init c = rw labels_to-none (written_none _)
 
 pub put_labels-at-requires : goal.put_labels-at-requires
 put_labels-at-requires c =
-    let few = c.label_count-labels.ensures.1 in
-    (few, rw length-take-le at (part_fits (labels_grow _ _) c.loop-k.invariant c.loop-k-test.true c.requires.count_in_bounds
-    (bytes-are c.args.values.now c.args.nodes.now c.loop-k.k _ _ c.node_at-node.ensures.value c.label_count-labels.ensures.0)))
+    let few = c.label_count-labels.ensures.1 in (
+      few,
+      rw length-take-le at (part_fits (labels_grow _ _) c.loop-k.invariant (omega arith) c.requires
+          (bytes-are c.args.values.now (node_section c.args.theory.now.image.now) c.loop-k.k _ _ c.node-node.ensures.value c.label_count-labels.ensures.0)),
+    )
 
 pub loop-k-preserved : goal.loop-k-preserved
 loop-k-preserved c =
-    part_written (labels_grow _ _) c.loop-k.invariant c.loop-k-test.true c.requires.count_in_bounds
-    (bytes-are c.args.values.now c.args.nodes.now c.loop-k.k _ _ c.node_at-node.ensures.value c.label_count-labels.ensures.0)
+    part_written (labels_grow _ _) c.loop-k.invariant (omega arith) c.requires
+    (bytes-are c.args.values.now (node_section c.args.theory.now.image.now) c.loop-k.k _ _ c.node-node.ensures.value c.label_count-labels.ensures.0)
     (c.put_labels-at.ensures.value ∙ sym (length-take-le _ _ c.label_count-labels.ensures.1)) c.put_labels-at.ensures.out_after

@@ -1,3 +1,4 @@
+use Rattle.std.proofs.Common.{arith}
 use Rattle.wire.proofs.Sequence.{up_to-none}
 use Rattle.translation.proofs.Turns.{pairs_grow}
 use Rattle.translation.proofs.Writing.{written_no_rules, pair_bytes, bytes_grow, part_fits, part_written}
@@ -8,10 +9,10 @@ loop-i-init c = written_no_rules _ _ _ (up_to-none _)
 
 pub put-at-requires : goal.put-at-requires
 put-at-requires c =
-    part_fits (bytes_grow c.args.packed (pairs_grow _)) c.loop-i.invariant c.loop-i-test.true c.requires.pairs_in_bounds
-    (pair_bytes c.args.packed _ _ c.pair_at-pair.ensures.value)
+    part_fits (bytes_grow c.args.packed (pairs_grow _)) c.loop-i.invariant (omega arith) c.requires
+    (pair_bytes c.args.packed _ _ c.pair-pair.ensures)
 
 pub loop-i-preserved : goal.loop-i-preserved
 loop-i-preserved c =
-    part_written (bytes_grow c.args.packed (pairs_grow _)) c.loop-i.invariant c.loop-i-test.true c.requires.pairs_in_bounds
-    (pair_bytes c.args.packed _ _ c.pair_at-pair.ensures.value) c.put-at.ensures.value c.put-at.ensures.out_after
+    part_written (bytes_grow c.args.packed (pairs_grow _)) c.loop-i.invariant (omega arith) c.requires
+    (pair_bytes c.args.packed _ _ c.pair-pair.ensures) c.put-at.ensures.value c.put-at.ensures.out_after

@@ -4,25 +4,25 @@ use borrow.Rule.Slice.PartMut.{put_mid}
 use Rattle.refusal.specs.Table.{none}
 use Rattle.wire.specs.Wire.{over}
 use Rattle.wire.proofs.Laws.{Written, turn_room, turn}
-use Rattle.theory.specs.Image.{atom_count, node_count, root_count, pair_count, node_section, root_section, pair_section, book_of}
+use Rattle.theory.specs.Image.{book_of}
 use Rattle.theory.specs.Rows.{theory_rows}
 use Rattle.program.specs.Image.{rules_bytes}
 use Rattle.flat.specs.Flat.{flat}
-use Rattle.translation.specs.Turns.{rules_to, facts_to, pairs_to, scratch_term, Numbered}
+use Rattle.translation.specs.Turns.{rules_of_nodes, facts_of_roots, rules_of_pairs, Numbered}
 use Rattle.translation.proofs.Writing.{written-first}
-use Rattle.translation.proofs.Sections.{nodes-accepted, roots-within, pairs-long, accepted_bytes, accepted_fit}
+use Rattle.translation.proofs.Sections.{accepted_bytes, accepted_fit}
 use Rattle.translation.proofs.write_rules.Goals as goal
 
 -- The bytes of the three parts of an accepted image's rules, which fit into an output.
 module _ (p : Bool) (t scratch old : List ℕ) (ok : none (theory_rows t) ≡ true) (numbered : Numbered t scratch) (room : length (rules_bytes p (flat (book_of t)).rules) ≤ length old) where
   abbrev nodes-bytes : List ℕ
-  nodes-bytes = rules_bytes p (rules_to (atom_count t) (node_section t) (node_count t))
+  nodes-bytes = rules_bytes p (rules_of_nodes t)
 
   abbrev facts-bytes : List ℕ
-  facts-bytes = rules_bytes p (facts_to (scratch_term scratch) (root_section t) (root_count t))
+  facts-bytes = rules_bytes p (facts_of_roots scratch t)
 
   abbrev pairs-bytes : List ℕ
-  pairs-bytes = rules_bytes p (pairs_to (pair_section t) (pair_count t))
+  pairs-bytes = rules_bytes p (rules_of_pairs t)
 
   fit : length nodes-bytes + length facts-bytes + length pairs-bytes ≤ length old
   fit = accepted_fit t ok p scratch numbered _ room
@@ -31,45 +31,41 @@ module _ (p : Bool) (t scratch old : List ℕ) (ok : none (theory_rows t) ≡ tr
   fit-pairs = rw length-append fit
 
   -- The nodes' rules are written,
-  wrote-nodes : {A N at : ℕ} {s out : List ℕ} → A ≡ atom_count t → s ≡ node_section t → N ≡ node_count t
-      → at ≡ length (rules_bytes p (rules_to A s N)) → out ≡ over (rules_bytes p (rules_to A s N)) old → Written nodes-bytes old out at
-  wrote-nodes e f g h i = written-first _ old _ _ (omega (arith, fit)) (rw (e, f, g) at h) (rw (e, f, g) at i)
+  wrote-nodes : {at : ℕ} {out : List ℕ} → at ≡ length nodes-bytes → out ≡ over nodes-bytes old → Written nodes-bytes old out at
+  wrote-nodes h i = written-first _ old _ _ (omega (arith, fit)) h i
 
   -- then the roots' facts are written too,
-  wrote-facts : {out : List ℕ} {at : ℕ} → Written nodes-bytes old out at → {R n : ℕ} {s back : List ℕ} → s ≡ root_section t → R ≡ root_count t
-      → let bytes = rules_bytes p (facts_to (scratch_term scratch) s R) in
-      n ≡ length bytes → back ≡ over bytes (take (length out - at) (drop at out)) → Written (nodes-bytes ++ facts-bytes) old (put_mid at (length out - at) out back) (at + n)
-  wrote-facts w e f g h = turn w facts-bytes (omega (arith, fit)) (rw (e, f) at g) (rw (e, f) at h)
+  wrote-facts : {out : List ℕ} {at : ℕ} → Written nodes-bytes old out at → {n : ℕ} {back : List ℕ} → n ≡ length facts-bytes → back ≡ over facts-bytes (take (length out - at) (drop at out))
+      → Written (nodes-bytes ++ facts-bytes) old (put_mid at (length out - at) out back) (at + n)
+  wrote-facts w g h = turn w facts-bytes (omega (arith, fit)) g h
 
   -- and at last the pairs' rules.
-  wrote-pairs : {out : List ℕ} {at : ℕ} → Written (nodes-bytes ++ facts-bytes) old out at → {P n : ℕ} {s back : List ℕ} → s ≡ pair_section t → P ≡ pair_count t
-      → let bytes = rules_bytes p (pairs_to s P) in
-      n ≡ length bytes → back ≡ over bytes (take (length out - at) (drop at out)) → Written ((nodes-bytes ++ facts-bytes) ++ pairs-bytes) old (put_mid at (length out - at) out back) (at + n)
-  wrote-pairs w e f g h = turn w pairs-bytes fit-pairs (rw (e, f) at g) (rw (e, f) at h)
+  wrote-pairs : {out : List ℕ} {at : ℕ} → Written (nodes-bytes ++ facts-bytes) old out at → {n : ℕ} {back : List ℕ} → n ≡ length pairs-bytes → back ≡ over pairs-bytes (take (length out - at) (drop at out))
+      → Written ((nodes-bytes ++ facts-bytes) ++ pairs-bytes) old (put_mid at (length out - at) out back) (at + n)
+  wrote-pairs w g h = turn w pairs-bytes fit-pairs g h
 
 pub write_nodes-at-requires : goal.write_nodes-at-requires
 write_nodes-at-requires c =
     let room = fit c.args.packed _ _ _ c.args.theory.now.checked c.requires.numbered c.requires.theory_in_bounds in
-    rw (c.atoms.ensures.0, c.node_section.ensures, c.nodes.ensures.0) (record { nodes = (nodes-accepted _ c.args.theory.now.checked, c.requires.numbered); count_in_bounds = omega arith })
+    record { numbered = c.requires.numbered; room = omega arith }
 
 pub write_facts-requires : goal.write_facts-requires
 write_facts-requires c =
     let ok = c.args.theory.now.checked in
     let room = fit c.args.packed _ _ _ ok c.requires.numbered c.requires.theory_in_bounds in
-    let nodes = wrote-nodes c.args.packed _ _ _ ok c.requires.numbered c.requires.theory_in_bounds c.atoms.ensures.0 c.node_section.ensures c.nodes.ensures.0 c.write_nodes-at.ensures.value c.write_nodes-at.ensures.out_after in
-    rw (c.root_section.ensures, c.roots.ensures.0) (record { roots = roots-within _ ok; count_in_bounds = turn_room nodes (omega arith) })
+    turn_room (wrote-nodes c.args.packed _ _ _ ok c.requires.numbered c.requires.theory_in_bounds c.write_nodes-at.ensures.value c.write_nodes-at.ensures.out_after) (omega arith)
 
 pub write_pairs-requires : goal.write_pairs-requires
 write_pairs-requires c =
     let ok = c.args.theory.now.checked in
-    let nodes = wrote-nodes c.args.packed _ _ _ ok c.requires.numbered c.requires.theory_in_bounds c.atoms.ensures.0 c.node_section.ensures c.nodes.ensures.0 c.write_nodes-at.ensures.value c.write_nodes-at.ensures.out_after in
-    let facts = wrote-facts c.args.packed _ _ _ ok c.requires.numbered c.requires.theory_in_bounds nodes c.root_section.ensures c.roots.ensures.0 c.write_facts.ensures.value c.write_facts.ensures.out_after in
-    rw (c.pair_section.ensures, c.pairs.ensures.0) (record { count_in_bounds = pairs-long _ ok; pairs_in_bounds = turn_room facts (fit-pairs c.args.packed _ _ _ ok c.requires.numbered c.requires.theory_in_bounds) })
+    let nodes = wrote-nodes c.args.packed _ _ _ ok c.requires.numbered c.requires.theory_in_bounds c.write_nodes-at.ensures.value c.write_nodes-at.ensures.out_after in
+    let facts = wrote-facts c.args.packed _ _ _ ok c.requires.numbered c.requires.theory_in_bounds nodes c.write_facts.ensures.value c.write_facts.ensures.out_after in
+    turn_room facts (fit-pairs c.args.packed _ _ _ ok c.requires.numbered c.requires.theory_in_bounds)
 
 pub returns : goal.returns
 returns c =
     let ok = c.args.theory.now.checked in
-    let nodes = wrote-nodes c.args.packed _ _ _ ok c.requires.numbered c.requires.theory_in_bounds c.atoms.ensures.0 c.node_section.ensures c.nodes.ensures.0 c.write_nodes-at.ensures.value c.write_nodes-at.ensures.out_after in
-    let facts = wrote-facts c.args.packed _ _ _ ok c.requires.numbered c.requires.theory_in_bounds nodes c.root_section.ensures c.roots.ensures.0 c.write_facts.ensures.value c.write_facts.ensures.out_after in
-    let w = wrote-pairs c.args.packed _ _ _ ok c.requires.numbered c.requires.theory_in_bounds facts c.pair_section.ensures c.pairs.ensures.0 c.write_pairs.ensures.value c.write_pairs.ensures.out_after in
+    let nodes = wrote-nodes c.args.packed _ _ _ ok c.requires.numbered c.requires.theory_in_bounds c.write_nodes-at.ensures.value c.write_nodes-at.ensures.out_after in
+    let facts = wrote-facts c.args.packed _ _ _ ok c.requires.numbered c.requires.theory_in_bounds nodes c.write_facts.ensures.value c.write_facts.ensures.out_after in
+    let w = wrote-pairs c.args.packed _ _ _ ok c.requires.numbered c.requires.theory_in_bounds facts c.write_pairs.ensures.value c.write_pairs.ensures.out_after in
     rw (accepted_bytes _ ok c.args.packed c.args.terms.now c.requires.numbered) (record { value = w.end; out_after = w.bytes })
