@@ -7,11 +7,6 @@ use native.Mathlib.Nat.{add_assoc}
 use native.Mathlib.Omega.{arith}
 use lib.ListN.{length, length-append}
 use Rattle.wire.specs.Sequence.{up_to}
-<<<<<<< HEAD
-use Rattle.theory.specs.declared.Kind.{Kind}
-use Rattle.theory.specs.declared.Kind.TheVariants.{False, True, Atom, Not, And, Or, Implies}
-=======
->>>>>>> 61a6fcd81301be234a178942562c72d6d615f4f6
 use Rattle.theory.specs.Image.{pair_in}
 use Rattle.std.specs.Prelude.{Option}
 use Rattle.program.specs.Literals.{Slotted}

@@ -2,11 +2,7 @@ use Rattle.std.proofs.Common.{◌≡◌, sym, ◌∙◌, arith, List, [], ◌∷
 use Rattle.wire.proofs.Laws.{written_none}
 use Rattle.logic.specs.Value.{number, of_byte, negation}
 use Rattle.theory.specs.declared.Node.{Node}
-<<<<<<< HEAD
-use Rattle.theory.specs.Image.{node_in}
-=======
 use Rattle.theory.specs.Image.{node_section, node_in}
->>>>>>> 61a6fcd81301be234a178942562c72d6d615f4f6
 use Rattle.flat.specs.Table.{label_count}
 use Rattle.translation.specs.Turns.{label_bytes}
 use Rattle.translation.proofs.Turns.{labels_to-none, labels_grow}

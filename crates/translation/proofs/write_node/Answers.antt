@@ -1,8 +1,4 @@
-<<<<<<< HEAD
-use Rattle.std.proofs.Common.{◌≡◌, Bool, List, [], ℕ, ◌<◌, ◌≤◌, length, get_or, arith, Option}
-=======
 use Rattle.std.proofs.Common.{◌≡◌, Bool, List, [], ℕ, ◌<◌, length, get_or, arith, Option}
->>>>>>> 61a6fcd81301be234a178942562c72d6d615f4f6
 use Rattle.theory.specs.declared.Kind.{Kind}
 use Rattle.program.specs.Literals.{Slotted}
 use Rattle.program.specs.Image.{rules_bytes}
