@@ -25,17 +25,6 @@ negation-number = agree₁ eqb eqb-true (λ x. number (negation x)) (λ x. cond 
 pub implication-number : (x y : Value) → number (implication x y) ≡ cond (leb (number x) (number y)) 2 (number y)
 implication-number = agree₂ eqb eqb-true (λ x y. number (implication x y)) (λ x y. cond (leb (number x) (number y)) 2 (number y)) refl
 
--- The same as a choice between two values: what the code does.
-
-pub smaller_choice : (x y : Value) → smaller x y ≡ cond (leb (number x) (number y)) x y
-smaller_choice = agree₂ same same_sound smaller (λ x y. cond (leb (number x) (number y)) x y) refl
-
-pub larger_choice : (x y : Value) → larger x y ≡ cond (leb (number y) (number x)) x y
-larger_choice = agree₂ same same_sound larger (λ x y. cond (leb (number y) (number x)) x y) refl
-
-pub implication_choice : (x y : Value) → implication x y ≡ cond (leb (number x) (number y)) Both y
-implication_choice = agree₂ same same_sound implication (λ x y. cond (leb (number x) (number y)) Both y) refl
-
 -- Bytes.
 
 pub of_byte-number : (v : Value) → of_byte (number v) ≡ v

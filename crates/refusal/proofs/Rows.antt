@@ -2,28 +2,16 @@
 use Rattle.std.proofs.Common.{count_by, add_comm, add-one}
 use Rattle.std.proofs.lemmas.List.Recursion.{is_count_by}
 use mathlib.Core.Path.{◌≡◌, refl}
-use mathlib.Core.Bool.{Bool, true, false, cond}
+use mathlib.Core.Bool.{Bool, true, false}
 use mathlib.Core.List.{List}
-use Prim.Native.Nat.{ℕ, suc, ◌+◌, ◌<◌}
+use Prim.Native.Nat.{ℕ, ◌<◌}
 use lib.Dec.{eqb}
-use lib.ListN.{length, get_or, drop}
-use lib.Seq.{drop-cons}
+use lib.ListN.{length, get_or}
 use borrow.Author.Tests.{not-false, eqb-true, eq-eqb}
-use Rattle.refusal.specs.Table.{none, numbered}
+use Rattle.refusal.specs.Table.{none}
 use Rattle.refusal.specs.Rows.{count_true, wrong, argument_rows}
 use Rattle.refusal.proofs.Table.{none_at}
 use Rattle.refusal.proofs.First.{first-none}
-
--- the bytes 2 from an index on are those behind it, and one more where that byte is 2
-pub count_true-drop : (bytes : List ℕ) (i : ℕ) → i < length bytes
-    → count_true (drop i bytes) ≡ cond (eqb (get_or bytes i 0) 2) (suc (count_true (drop (i + 1) bytes))) (count_true (drop (i + 1) bytes))
-unfolding count_true
-count_true-drop bytes i h = rw (drop-cons bytes i 0, add-one)
-
--- rows 9 and 10 have numbers of their own
-pub numbered-argument_rows : (candidate : Bool) (count : ℕ) (bytes : List ℕ) → numbered (argument_rows candidate count bytes) ≡ true
-unfolding argument_rows
-numbered-argument_rows candidate count bytes = refl
 
 -- where neither applies, the length is the atom count and no byte is wrong
 pub none-argument_rows : (candidate : Bool) (count : ℕ) (bytes : List ℕ) → none (argument_rows candidate count bytes) ≡ true

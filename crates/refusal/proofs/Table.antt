@@ -76,17 +76,9 @@ module _ {rows rest : List Row} {x : ℕ} {r : Row} (at : Reached rows x (r ∷ 
   pub reached_refused : r.applies ≡ true → {a : Answer} → a ≡ refused r.number r.place → a ≡ answer rows x
   reached_refused h e = e ∙ sym (at.same ∙ rw h)
 
--- it passes rows of which none applies
-pub reached_past : (rs qs : List Row) (x : ℕ) → none rs ≡ true → Reached (rs ++ qs) x qs
-reached_past rs qs x n = record { same = answer_past rs qs x n; clear = none_past rs qs n }
-
 -- behind the last, none of the rows applies
 pub reached_none : {rows : List Row} {x : ℕ} → Reached rows x [] → none rows ≡ true
 reached_none at = at.clear
-
--- and the result is accepted
-pub reached_accepted : {rows : List Row} {x : ℕ} → Reached rows x [] → {a : Answer} → a ≡ accepted x → a ≡ answer rows x
-reached_accepted at e = e ∙ sym at.same
 
 -- a refusal by the first rows stands, whatever rows are behind
 pub answer-refused : (rs qs : List Row) (x y : ℕ) {a : Answer} → a ≡ answer rs x → (a.number ≡ 0 → ⊥) → a ≡ answer (rs ++ qs) y

@@ -2,10 +2,10 @@
 use mathlib.Core.Path.{◌≡◌}
 use mathlib.Core.Bool.{true, false}
 use mathlib.Core.List.{List, [], ◌∷◌}
-use Prim.Native.Nat.{ℕ, ◌*◌, ◌≤◌, ◌<◌}
+use Prim.Native.Nat.{ℕ, ◌≤◌, ◌<◌}
 use native.Mathlib.Nat.{zero-add}
 use native.Mathlib.Omega.{arith}
-use lib.ListN.{length, get_or}
+use lib.ListN.{length}
 use borrow.Author.Tests.{ltb-true, ltb-false, eqb-true, not-false}
 use Rattle.refusal.specs.Limits.{most_atoms, most_nodes, most_roots, most_pairs}
 use Rattle.refusal.specs.Table.{none}
@@ -45,9 +45,6 @@ pub record Formed (t : List ℕ) : Type 0 where
 module _ (A : ℕ) (s : List ℕ) (k : ℕ) (kept : breaks A s k ≡ false) where
   none-wrong : (f : ℕ) → f < 4 → field_wrong A s k f ≡ false
   none-wrong = (first-none (field_wrong A s k) 4).0 kept
-
-  pub kept_known : get_or s (k * 6) 0 < 7
-  kept_known = omega (arith, ltb-false 6 (get_or s (k * 6) 0) (none-wrong 0 (omega arith)))
 
   pub kept_fits : fits A k (node_in s k) ≡ true
   kept_fits = &&_join (not-false (left_fits A k (node_in s k)) (none-wrong 2 (omega arith))) (not-false (right_fits k (node_in s k)) (none-wrong 3 (omega arith)))

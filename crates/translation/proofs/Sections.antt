@@ -31,12 +31,6 @@ module _ (t : List ℕ) (ok : none (theory_rows t) ≡ true) where
       let a = accepted t ok in
       record { few = a.header.few-roots; long = rw length-drop (omega (arith, a.header.whole)); below = a.roots-below }
 
-  -- A root's term stands in the scratch.
-  pub roots-within : Roots most_nodes (root_section t) (root_count t)
-  roots-within =
-      let r = roots-accepted in
-      record { few = r.few; long = r.long; below = λ i h. omega (arith, r.below i h, nodes-accepted.few) }
-
   -- The rules of the program are those of the nodes, the facts of the roots, by the terms in the scratch, and those of the pairs.
   pub accepted-rules : (scratch : List ℕ) → Numbered t scratch
       → (flat (book_of t)).rules

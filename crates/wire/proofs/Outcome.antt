@@ -1,12 +1,12 @@
 -- Laws of the outcome of a call that writes: what its first rows refuse is refused and nothing is written, past them the later rows decide. From the laws of an answer.
-use mathlib.Core.Path.{◌≡◌, refl, sym, ap, ap₂, ◌∙◌}
+use mathlib.Core.Path.{◌≡◌, refl, sym, ap, ap₂}
 use mathlib.Core.Bool.{Bool, true, false, cond}
 use mathlib.Core.List.{List, ◌∷◌, ◌++◌}
 use Prim.Native.Nat.{ℕ}
 use lib.ListN.{length, take, drop}
 use Rattle.refusal.specs.declared.Answer.{Answer}
 use Rattle.refusal.specs.Table.{Row, answer, none}
-use Rattle.refusal.proofs.Table.{answer_past, answer-none, answer-refused, none_past, none-refused, idle_row}
+use Rattle.refusal.proofs.Table.{answer-none, answer-refused, none-refused, idle_row}
 use Rattle.wire.specs.Wire.{over}
 use Rattle.wire.specs.Outcome.{Outcome, outcome, written}
 use Rattle.wire.proofs.Laws.{take-over, drop-over}
@@ -36,11 +36,6 @@ module _ (rs qs : List Row) (bytes out : List ℕ) (y : ℕ) where
   outcome-refused x e h =
       let whole = answer-refused rs qs x y e h in
       ap₂ outcome whole (ap (λ (b : Bool). cond b (over bytes out) out) (sym (none-refused (rs ++ qs) y whole h)))
-
-  pub outcome_past : none rs ≡ true → {a : Answer} {left : List ℕ} → a ≡ answer qs y → left ≡ written qs bytes out
-      → outcome a left ≡ outcome (answer (rs ++ qs) y) (written (rs ++ qs) bytes out)
-  outcome_past n e f =
-      ap₂ outcome (e ∙ sym (answer_past rs qs y n)) (f ∙ ap (λ (b : Bool). cond b (over bytes out) out) (sym (none_past rs qs n)))
 
 -- without a row that does not apply where no row before it does, the outcome is the same
 pub outcome_idle : (before : List Row) (r : Row) (after : List Row) (x : ℕ) (bytes out : List ℕ) → (none before ≡ true → r.applies ≡ false)
