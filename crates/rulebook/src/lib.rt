@@ -2,6 +2,7 @@
 #![tactic(auto)]
 
 ghost use Rattle.std.specs.Prelude.{◌≡◌, ◌≤◌, ◌++◌, [], ◌∷◌, length};
+ghost use Rattle.refusal.specs.Limits.{most_nodes, most_b};
 ghost use Rattle.refusal.specs.Table.{yes, answer};
 ghost use Rattle.refusal.specs.Refusal.{answer_of};
 ghost use Rattle.refusal.specs.Rows.{reading_rows, candidate_rows};
@@ -104,6 +105,7 @@ fn test<I: Image, const READING: usize, const VALUES: usize>(
 ) -> Result<usize, Refusal>
     requires reading_room { I.atoms_of image.now ≤ READING }
     requires values_room { I.most_values ≤ VALUES }
+    requires rooms { (READING ≤ most_b) × (VALUES ≤ most_nodes) }
     ensures { answer_of result ≡ answer (candidate_rows (I.atoms_of image.now) candidate.now ++ (row11_true candidate.now ∷ [])) (yes (is_answer_set (I.atoms_of image.now) (I.formulas_of image.now) (set_of candidate.now))) }
 {
     refusal::candidate(candidate, image.reading_length())?;
