@@ -1,5 +1,5 @@
 -- What a call gives that tries some rows, and others behind them only where none of the first applies. From the laws of an answer. Assumes nothing.
-use Rattle.std.proofs.Common.{◌≡◌, refl, sym, ap, ap₂, ◌∙◌, Bool, true, false, List, [], ◌++◌, append-nil, ℕ, Result, IsErrAnd}
+use Rattle.std.proofs.Common.{◌≡◌, refl, sym, ap₂, ◌∙◌, Bool, true, false, List, [], ◌++◌, append-nil, ℕ, Result, IsErrAnd}
 use Rattle.std.proofs.lemmas.Result.{err_from_is_err_and}
 use mir.Val.{bool_byte}
 use Rattle.refusal.specs.declared.Answer.{Answer}
