@@ -155,21 +155,6 @@ fn measure(theory: &Theory, terms: &mut [u16; refusal::MOST_NODES]) -> Totals
     Totals { all, counts }
 }
 
-// Counts the facts of the roots.
-fn count_facts(theory: &Theory, terms: &[u16; refusal::MOST_NODES]) -> Counts
-    ensures { Counted (facts_of_roots terms.now theory.now.image.now) result.rules result.literals }
-{
-    let mut counts = Counts {
-        rules: 0,
-        literals: 0,
-    };
-    for i in 0..theory.roots() {
-        let term = terms[theory.root(i)];
-        counts = counts.with(&table::fact_of(usize::from(term)));
-    }
-    counts
-}
-
 // Writes the rules of a node of a kind over the start of `out`, and gives how many bytes they are.
 fn write_node(out: &mut [u8], packed: bool, kind: Kind, terms: &Terms) -> usize
     requires { length (rules_bytes packed (kind_rules terms.now.numbers kind)) ≤ length out.old }
@@ -179,52 +164,6 @@ fn write_node(out: &mut [u8], packed: bool, kind: Kind, terms: &Terms) -> usize
     let mut at = 0;
     for shape in table::rows(kind) {
         at += table::put_rule(&mut out[at..], packed, &table::make(shape, terms));
-    }
-    at
-}
-
-// Writes the rules of all nodes over the start of `out`, each node's into the unwritten rest.
-fn write_nodes(
-    out: &mut [u8],
-    packed: bool,
-    theory: &Theory,
-    terms: &[u16; refusal::MOST_NODES],
-) -> usize
-    requires numbered { Numbered theory.now.image.now terms.now }
-    requires room { length (rules_bytes packed (rules_of_nodes theory.now.image.now)) ≤ length out.old }
-    ensures value { result ≡ length (rules_bytes packed (rules_of_nodes theory.now.image.now)) }
-    ensures out_after { out.new ≡ over (rules_bytes packed (rules_of_nodes theory.now.image.now)) out.old }
-{
-    let mut next = theory.atoms();
-    let mut at = 0;
-    for k in 0..theory.nodes() {
-        let node = theory.node(k);
-        at += write_node(
-            &mut out[at..],
-            packed,
-            node.kind,
-            &slot_terms(node, terms, next),
-        );
-        next += table::label_count(node.kind);
-    }
-    at
-}
-
-// Writes a fact for each root over the start of `out`.
-fn write_facts(
-    out: &mut [u8],
-    packed: bool,
-    theory: &Theory,
-    terms: &[u16; refusal::MOST_NODES],
-) -> usize
-    requires { length (rules_bytes packed (facts_of_roots terms.now theory.now.image.now)) ≤ length out.old }
-    ensures value { result ≡ length (rules_bytes packed (facts_of_roots terms.now theory.now.image.now)) }
-    ensures out_after { out.new ≡ over (rules_bytes packed (facts_of_roots terms.now theory.now.image.now)) out.old }
-{
-    let mut at = 0;
-    for root in 0..theory.roots() {
-        let term = terms[theory.root(root)];
-        at += table::put_rule(&mut out[at..], packed, &table::fact_of(usize::from(term)));
     }
     at
 }
@@ -249,54 +188,98 @@ fn write_pairs(out: &mut [u8], packed: bool, theory: &Theory) -> usize
     at
 }
 
-// Counts all rules: those of the nodes, which are measured already, the facts of the roots, and a rule of two literals for each pair.
-fn count(theory: &Theory, terms: &[u16; refusal::MOST_NODES], nodes: Counts) -> Counts
-    requires numbered { Numbered theory.now.image.now terms.now }
-    requires counted { Counted (rules_of_nodes theory.now.image.now) nodes.rules nodes.literals }
-    ensures { Counted (flat (book_of theory.now.image.now)).rules result.rules result.literals × (result.rules ≤ most_rules) }
-{
-    let facts = count_facts(theory, terms);
-    let pairs = theory.pairs();
-    nodes.and(facts).and(Counts {
-        rules: pairs,
-        literals: pairs * 2,
-    })
+// A theory beside the numbers of its nodes' terms.
+#[derive(Clone, Copy)]
+struct NumberedTheory<'a> {
+    theory: Theory<'a>,
+    terms: &'a [u16; refusal::MOST_NODES],
+    ghost numbered: { Numbered theory.image.now terms.now },
 }
 
-// Writes all rules over the start of `out`: those of the nodes, then a fact for each root, then a rule for each pair.
-fn write_rules(
-    theory: &Theory,
-    packed: bool,
-    out: &mut [u8],
-    terms: &[u16; refusal::MOST_NODES],
-) -> usize
-    requires numbered { Numbered theory.now.image.now terms.now }
-    requires theory_in_bounds { length (rules_bytes packed (flat (book_of theory.now.image.now)).rules) ≤ length out.old }
-    ensures value { result ≡ length (rules_bytes packed (flat (book_of theory.now.image.now)).rules) }
-    ensures out_after { out.new ≡ over (rules_bytes packed (flat (book_of theory.now.image.now)).rules) out.old }
-{
-    let at = write_nodes(out, packed, theory, terms);
-    let end = at + write_facts(&mut out[at..], packed, theory, terms);
-    end + write_pairs(&mut out[end..], packed, theory)
-}
+impl<'a> NumberedTheory<'a> {
+    // Counts the facts of the roots.
+    fn count_facts(&self) -> Counts
+        ensures { Counted (facts_of_roots self.now.terms.now self.now.theory.image.now) result.rules result.literals }
+    {
+        let mut counts = Counts {
+            rules: 0,
+            literals: 0,
+        };
+        for i in 0..self.theory.roots() {
+            let term = self.terms[self.theory.root(i)];
+            counts = counts.with(&table::fact_of(usize::from(term)));
+        }
+        counts
+    }
 
-// Writes the program's image over the start of `out`: the rules, and the header last.
-fn write(
-    theory: &Theory,
-    packed: bool,
-    out: &mut [u8],
-    terms: &[u16; refusal::MOST_NODES],
-    size: usize,
-    rules: usize,
-    total: usize,
-)
-    requires numbered { Numbered theory.now.image.now terms.now }
-    requires size_value { (size ≡ size_of theory.now.image.now) × (rules ≡ rule_total theory.now.image.now) × (total ≡ length (image_of packed (flat (book_of theory.now.image.now)))) × (total ≤ length out.old) }
-    ensures { out.new ≡ over (image_of packed (flat (book_of theory.now.image.now))) out.old }
-{
-    write_rules(theory, packed, &mut out[16..], terms);
-    let header = program::header_bytes(packed, theory.atoms(), size, rules, total);
-    wire::put(out, &header);
+    // Counts all rules: those of the nodes, which are measured already, the facts of the roots, and a rule of two literals for each pair.
+    fn count(&self, nodes: Counts) -> Counts
+        requires { Counted (rules_of_nodes self.now.theory.image.now) nodes.rules nodes.literals }
+        ensures { Counted (flat (book_of self.now.theory.image.now)).rules result.rules result.literals × (result.rules ≤ most_rules) }
+    {
+        let facts = self.count_facts();
+        let pairs = self.theory.pairs();
+        nodes.and(facts).and(Counts {
+            rules: pairs,
+            literals: pairs * 2,
+        })
+    }
+
+    // Writes the rules of all nodes over the start of `out`, each node's into the unwritten rest.
+    fn write_nodes(&self, out: &mut [u8], packed: bool) -> usize
+        requires { length (rules_bytes packed (rules_of_nodes self.now.theory.image.now)) ≤ length out.old }
+        ensures value { result ≡ length (rules_bytes packed (rules_of_nodes self.now.theory.image.now)) }
+        ensures out_after { out.new ≡ over (rules_bytes packed (rules_of_nodes self.now.theory.image.now)) out.old }
+    {
+        let mut next = self.theory.atoms();
+        let mut at = 0;
+        for k in 0..self.theory.nodes() {
+            let node = self.theory.node(k);
+            at += write_node(
+                &mut out[at..],
+                packed,
+                node.kind,
+                &slot_terms(node, self.terms, next),
+            );
+            next += table::label_count(node.kind);
+        }
+        at
+    }
+
+    // Writes a fact for each root over the start of `out`.
+    fn write_facts(&self, out: &mut [u8], packed: bool) -> usize
+        requires { length (rules_bytes packed (facts_of_roots self.now.terms.now self.now.theory.image.now)) ≤ length out.old }
+        ensures value { result ≡ length (rules_bytes packed (facts_of_roots self.now.terms.now self.now.theory.image.now)) }
+        ensures out_after { out.new ≡ over (rules_bytes packed (facts_of_roots self.now.terms.now self.now.theory.image.now)) out.old }
+    {
+        let mut at = 0;
+        for root in 0..self.theory.roots() {
+            let term = self.terms[self.theory.root(root)];
+            at += table::put_rule(&mut out[at..], packed, &table::fact_of(usize::from(term)));
+        }
+        at
+    }
+
+    // Writes all rules over the start of `out`: those of the nodes, then a fact for each root, then a rule for each pair.
+    fn write_rules(&self, out: &mut [u8], packed: bool) -> usize
+        requires { length (rules_bytes packed (flat (book_of self.now.theory.image.now)).rules) ≤ length out.old }
+        ensures value { result ≡ length (rules_bytes packed (flat (book_of self.now.theory.image.now)).rules) }
+        ensures out_after { out.new ≡ over (rules_bytes packed (flat (book_of self.now.theory.image.now)).rules) out.old }
+    {
+        let at = self.write_nodes(out, packed);
+        let end = at + self.write_facts(&mut out[at..], packed);
+        end + write_pairs(&mut out[end..], packed, &self.theory)
+    }
+
+    // Writes the program's image over the start of `out`: the rules, and the header last.
+    fn write(&self, out: &mut [u8], packed: bool, size: usize, rules: usize, total: usize)
+        requires { (size ≡ size_of self.now.theory.image.now) × (rules ≡ rule_total self.now.theory.image.now) × (total ≡ length (image_of packed (flat (book_of self.now.theory.image.now)))) × (total ≤ length out.old) }
+        ensures { out.new ≡ over (image_of packed (flat (book_of self.now.theory.image.now))) out.old }
+    {
+        self.write_rules(&mut out[16..], packed);
+        let header = program::header_bytes(packed, self.theory.atoms(), size, rules, total);
+        wire::put(out, &header);
+    }
 }
 
 // The translation of a theory image into a program image of either form: row 8 first, and K rules where it does not apply.
@@ -306,20 +289,16 @@ pub fn translate(theory: &Theory, packed: bool, out: &mut [u8]) -> Result<usize,
 {
     let mut terms = [0u16; refusal::MOST_NODES];
     let measured = measure(theory, &mut terms);
-    let whole = count(theory, &terms, measured.counts);
+    let numbered = NumberedTheory {
+        theory: *theory,
+        terms: &terms,
+    };
+    let whole = numbered.count(measured.counts);
     let needed = program::image_length(packed, whole.rules, whole.literals);
     if out.len() < needed {
         return Err(Refusal::Room { needed });
     }
-    write(
-        theory,
-        packed,
-        out,
-        &terms,
-        measured.all,
-        whole.rules,
-        needed,
-    );
+    numbered.write(out, packed, measured.all, whole.rules, needed);
     Ok(whole.rules)
 }
 

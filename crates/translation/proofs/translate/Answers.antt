@@ -14,7 +14,7 @@ returns-then-out-needed c =
 pub write-requires : goal.write-requires
 write-requires c =
     let needed = counted_length c.args.packed (flat (book_of c.args.theory.now.image.now)) c.count-whole.ensures.0 c.image_length-needed.ensures in
-    record { numbered = c.measure-measured.ensures.numbered; size_value = (c.measure-measured.ensures.all_value, c.count-whole.ensures.0.all, needed, c.if-out-needed.false) }
+    (c.measure-measured.ensures.all_value, c.count-whole.ensures.0.all, needed, c.if-out-needed.false)
 
 pub returns : goal.returns
 returns c =

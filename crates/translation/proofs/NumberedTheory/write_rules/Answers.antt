@@ -11,7 +11,7 @@ use Rattle.flat.specs.Flat.{flat}
 use Rattle.translation.specs.Turns.{rules_of_nodes, facts_of_roots, rules_of_pairs, Numbered}
 use Rattle.translation.proofs.Writing.{written-first}
 use Rattle.translation.proofs.Sections.{accepted_bytes, accepted_fit}
-use Rattle.translation.proofs.write_rules.Goals as goal
+use Rattle.translation.proofs.NumberedTheory.write_rules.Goals as goal
 
 -- The bytes of the three parts of an accepted image's rules, which fit into an output.
 module _ (p : Bool) (t scratch old : List ℕ) (ok : none (theory_rows t) ≡ true) (numbered : Numbered t scratch) (room : length (rules_bytes p (flat (book_of t)).rules) ≤ length old) where
@@ -46,26 +46,26 @@ module _ (p : Bool) (t scratch old : List ℕ) (ok : none (theory_rows t) ≡ tr
 
 pub write_nodes-at-requires : goal.write_nodes-at-requires
 write_nodes-at-requires c =
-    let room = fit c.args.packed _ _ _ c.args.theory.now.checked c.requires.numbered c.requires.theory_in_bounds in
-    record { numbered = c.requires.numbered; room = omega arith }
+    let room = fit c.args.packed _ _ _ c.args.self.now.theory.checked c.args.self.now.numbered c.requires in
+    omega arith
 
 pub write_facts-requires : goal.write_facts-requires
 write_facts-requires c =
-    let ok = c.args.theory.now.checked in
-    let room = fit c.args.packed _ _ _ ok c.requires.numbered c.requires.theory_in_bounds in
-    turn_room (wrote-nodes c.args.packed _ _ _ ok c.requires.numbered c.requires.theory_in_bounds c.write_nodes-at.ensures.value c.write_nodes-at.ensures.out_after) (omega arith)
+    let ok = c.args.self.now.theory.checked in
+    let room = fit c.args.packed _ _ _ ok c.args.self.now.numbered c.requires in
+    turn_room (wrote-nodes c.args.packed _ _ _ ok c.args.self.now.numbered c.requires c.write_nodes-at.ensures.value c.write_nodes-at.ensures.out_after) (omega arith)
 
 pub write_pairs-requires : goal.write_pairs-requires
 write_pairs-requires c =
-    let ok = c.args.theory.now.checked in
-    let nodes = wrote-nodes c.args.packed _ _ _ ok c.requires.numbered c.requires.theory_in_bounds c.write_nodes-at.ensures.value c.write_nodes-at.ensures.out_after in
-    let facts = wrote-facts c.args.packed _ _ _ ok c.requires.numbered c.requires.theory_in_bounds nodes c.write_facts.ensures.value c.write_facts.ensures.out_after in
-    turn_room facts (fit-pairs c.args.packed _ _ _ ok c.requires.numbered c.requires.theory_in_bounds)
+    let ok = c.args.self.now.theory.checked in
+    let nodes = wrote-nodes c.args.packed _ _ _ ok c.args.self.now.numbered c.requires c.write_nodes-at.ensures.value c.write_nodes-at.ensures.out_after in
+    let facts = wrote-facts c.args.packed _ _ _ ok c.args.self.now.numbered c.requires nodes c.write_facts.ensures.value c.write_facts.ensures.out_after in
+    turn_room facts (fit-pairs c.args.packed _ _ _ ok c.args.self.now.numbered c.requires)
 
 pub returns : goal.returns
 returns c =
-    let ok = c.args.theory.now.checked in
-    let nodes = wrote-nodes c.args.packed _ _ _ ok c.requires.numbered c.requires.theory_in_bounds c.write_nodes-at.ensures.value c.write_nodes-at.ensures.out_after in
-    let facts = wrote-facts c.args.packed _ _ _ ok c.requires.numbered c.requires.theory_in_bounds nodes c.write_facts.ensures.value c.write_facts.ensures.out_after in
-    let w = wrote-pairs c.args.packed _ _ _ ok c.requires.numbered c.requires.theory_in_bounds facts c.write_pairs.ensures.value c.write_pairs.ensures.out_after in
-    rw (accepted_bytes _ ok c.args.packed c.args.terms.now c.requires.numbered) (record { value = w.end; out_after = w.bytes })
+    let ok = c.args.self.now.theory.checked in
+    let nodes = wrote-nodes c.args.packed _ _ _ ok c.args.self.now.numbered c.requires c.write_nodes-at.ensures.value c.write_nodes-at.ensures.out_after in
+    let facts = wrote-facts c.args.packed _ _ _ ok c.args.self.now.numbered c.requires nodes c.write_facts.ensures.value c.write_facts.ensures.out_after in
+    let w = wrote-pairs c.args.packed _ _ _ ok c.args.self.now.numbered c.requires facts c.write_pairs.ensures.value c.write_pairs.ensures.out_after in
+    rw (accepted_bytes _ ok c.args.packed c.args.self.now.terms.now c.args.self.now.numbered) (record { value = w.end; out_after = w.bytes })

@@ -7,7 +7,7 @@ use Rattle.flat.specs.Flat.{flat, largest_k}
 use Rattle.translation.specs.Turns.{rules_of_nodes, facts_of_roots, rules_of_pairs, Counted, Numbered}
 use Rattle.translation.proofs.Counting.{counted_more, counted_pairs}
 use Rattle.translation.proofs.Sections.{accepted-rules, accepted_total}
-use Rattle.translation.proofs.count.Goals as goal
+use Rattle.translation.proofs.NumberedTheory.count.Goals as goal
 
 -- With the pairs' all rules are counted, and they are few.
 total : (t scratch : List ℕ) → none (theory_rows t) ≡ true → Numbered t scratch → {rules literals a m n : ℕ}
@@ -20,15 +20,15 @@ total t scratch ok numbered {n = n} nodes roots g =
 
 pub and-requires : goal.and-requires
 and-requires c =
-    let all = total _ _ c.args.theory.now.checked c.requires.numbered c.requires.counted c.count_facts-facts.ensures c.pairs-pairs.ensures.0 in
+    let all = total _ _ c.args.self.now.theory.checked c.args.self.now.numbered c.requires c.count_facts-facts.ensures c.pairs-pairs.ensures.0 in
     (omega arith, omega arith)
 
 pub and-requires-2 : goal.and-requires-2
 and-requires-2 c =
-    let all = total _ _ c.args.theory.now.checked c.requires.numbered c.requires.counted c.count_facts-facts.ensures c.pairs-pairs.ensures.0 in
+    let all = total _ _ c.args.self.now.theory.checked c.args.self.now.numbered c.requires c.count_facts-facts.ensures c.pairs-pairs.ensures.0 in
     (omega arith, omega arith)
 
 pub returns : goal.returns
 returns c =
-    let all = total _ _ c.args.theory.now.checked c.requires.numbered c.requires.counted c.count_facts-facts.ensures c.pairs-pairs.ensures.0 in
+    let all = total _ _ c.args.self.now.theory.checked c.args.self.now.numbered c.requires c.count_facts-facts.ensures c.pairs-pairs.ensures.0 in
     rw (c.and-2.ensures.0, c.and-2.ensures.1, c.and.ensures.0, c.and.ensures.1) (all.0, omega arith)
