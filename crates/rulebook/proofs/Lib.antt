@@ -1,2 +1,4 @@
 pub mod Behind
 pub mod Promises
+pub mod Candidate
+pub mod FirstBytes
