@@ -8,10 +8,15 @@ use Prim.Native.Nat.{ℕ, ◌<◌}
 use lib.Dec.{eqb}
 use lib.ListN.{length, get_or}
 use borrow.Author.Tests.{not-false, eqb-true, eq-eqb}
-use Rattle.refusal.specs.Table.{none}
+use Rattle.refusal.specs.Table.{none, numbered}
 use Rattle.refusal.specs.Rows.{count_true, wrong, argument_rows}
 use Rattle.refusal.proofs.Table.{none_at}
 use Rattle.refusal.proofs.First.{first-none}
+
+-- rows 9 and 10 have numbers of their own
+pub numbered-argument_rows : (candidate : Bool) (count : ℕ) (bytes : List ℕ) → numbered (argument_rows candidate count bytes) ≡ true
+unfolding argument_rows
+numbered-argument_rows candidate count bytes = refl
 
 -- where neither applies, the length is the atom count and no byte is wrong
 pub none-argument_rows : (candidate : Bool) (count : ℕ) (bytes : List ℕ) → none (argument_rows candidate count bytes) ≡ true
