@@ -2,10 +2,10 @@
 use mathlib.Core.Path.{◌≡◌}
 use mathlib.Core.Bool.{true, false}
 use mathlib.Core.List.{List, [], ◌∷◌}
-use Prim.Native.Nat.{ℕ, ◌≤◌, ◌<◌}
+use Prim.Native.Nat.{ℕ, ◌-◌, ◌≤◌, ◌<◌}
 use native.Mathlib.Nat.{zero-add}
 use native.Mathlib.Omega.{arith}
-use lib.ListN.{length}
+use lib.ListN.{length, take, drop}
 use borrow.Author.Tests.{ltb-true, ltb-false, eqb-true, not-false}
 use Rattle.refusal.specs.Limits.{most_atoms, most_nodes, most_roots, most_pairs}
 use Rattle.refusal.specs.Table.{none}
@@ -13,7 +13,7 @@ use Rattle.refusal.proofs.Table.{none_at, none_split}
 use Rattle.refusal.proofs.First.{first-none}
 use Rattle.logic.proofs.Bools.{&&_join, ||-split}
 use Rattle.wire.specs.Sequence.{up_to}
-use Rattle.wire.proofs.Laws.{all_below-each}
+use Rattle.wire.proofs.Laws.{part_from, all_below-each}
 use Rattle.wire.proofs.Sequence.{length-up_to, get_d_up_to}
 use Rattle.theory.specs.declared.Kind.{Kind}
 use Rattle.theory.specs.declared.Kind.TheVariants.{False, True, Atom, Not, And, Or, Implies}
@@ -24,6 +24,10 @@ use Rattle.theory.specs.Used.{used}
 use Rattle.theory.specs.Rows.{row6, row7, row13, row15, header_rows, form_rows, theory_rows}
 use Rattle.theory.proofs.Books.{fits-left, fits-right, all_fit-each}
 use Rattle.theory.proofs.PairLaws.{pairs_fit-up_to}
+
+-- A part of an image, from where a section starts to the end, is that section.
+pub section_from : (t : List ℕ) (n m : ℕ) → n ≡ m → take (length t - n) (drop n t) ≡ drop m t
+section_from t n m e = rw (part_from, e)
 
 -- What the rows on the header leave.
 pub record Header (t : List ℕ) : Type 0 where

@@ -43,7 +43,13 @@ unfolding up_to
 pairs_fit-up_to A f zero h = refl
 pairs_fit-up_to A f (suc n) h = pairs_fit_more A (up_to f n) (f n) (pairs_fit-up_to A f n (λ i l. h i (omega arith))) (h n (omega arith))
 
--- Not is 2 exactly at 0.
+-- Not is 2 exactly at 0: as a test,
+pub negation_test : (v : Value) → not (true_here (negation v)) ≡ ltb 0 (number v)
+negation_test Neither = refl
+negation_test There = refl
+negation_test Both = refl
+
+-- and as a law.
 negation_iff : (v : Value) → (negation v ≡ Both) ↔ (number v ≡ 0)
 negation_iff Neither = (λ h. refl, λ h. refl)
 negation_iff There = (λ h. cc, λ h. cc)

@@ -16,6 +16,14 @@ use Rattle.refusal.proofs.First.{first_is, found-below, searched-refused, search
 use Rattle.theory.specs.Image.{atom_count, node_count, node_section, field_wrong, first_wrong, breaks}
 use Rattle.theory.specs.Rows.{row6, header_rows, form_rows, theory_rows}
 
+pub numbered-header_rows : (t : List ℕ) → numbered (header_rows t) ≡ true
+unfolding header_rows
+numbered-header_rows t = refl
+
+pub numbered-form_rows : (t : List ℕ) → numbered (form_rows t) ≡ true
+unfolding form_rows header_rows
+numbered-form_rows t = refl
+
 pub numbered-theory_rows : (t : List ℕ) → numbered (theory_rows t) ≡ true
 unfolding theory_rows form_rows header_rows
 numbered-theory_rows t = refl

@@ -1,8 +1,12 @@
 -- Laws of satisfaction by the nodes' values: each root's byte is the value of its formula, so that the roots' bytes and the pairs tell whether a reading satisfies the book. Assumes nothing.
-use Rattle.std.proofs.Common.{◌≡◌, refl, sym, ap, ap₂, ◌∙◌, Bool, ◌&&◌, List, [], ◌∷◌, ◌++◌, map, add-one, ℕ, zero, suc, ◌+◌, ◌<◌, zero-add, arith, eqb, length, get_or, drop}
+use Rattle.std.proofs.Common.{◌≡◌, refl, sym, ap, ap₂, ◌∙◌, Bool, not, ◌&&◌, List, [], ◌∷◌, ◌++◌, map, add-one, ℕ, zero, suc, ◌+◌, ◌≤◌, ◌<◌, add-zero, zero-add, arith, eqb, length, get_or, drop}
 use Rattle.std.specs.List.{list_all, range_with_len}
 use Rattle.std.proofs.lemmas.List.FromFn.{map-range_with_len_more}
+use lib.Dec.{eqb-suc-suc, eqb-zero-suc}
 use lib.ListN.{length-map, get_or-append, get_or-map}
+use Rattle.refusal.specs.First.{first}
+use Rattle.refusal.proofs.First.{first_le, first_equal}
+use Rattle.refusal.proofs.Table.{cases}
 use Rattle.logic.specs.declared.Value.{Value}
 use Rattle.logic.specs.declared.Value.TheVariants.{Neither, There, Both}
 use Rattle.logic.specs.Value.{number, true_here}
@@ -73,10 +77,37 @@ unfolding book_of
 pairs_tested t I = sym (satisfies-up_to I pair_formula (pair_in (pair_section t)) (pair_count t))
 
 -- and both, whether it satisfies the book.
-pub satisfies-book : (t old : List ℕ) (I : Reading) → Formed t
+pub satisfies-each : (t old : List ℕ) (I : Reading) → Formed t
     → (list_all (λ i. eqb (get_or (over (map number (node_values (book_of t) I)) old) (root_in (root_section t) i) 0) 2) (range_with_len 0 (root_count t))
     && list_all (λ i. true_here (value I (pair_formula (pair_in (pair_section t) i)))) (range_with_len 0 (pair_count t)))
     ≡ satisfies I (book_formulas (book_of t))
-satisfies-book t old I a =
+satisfies-each t old I a =
     ap₂ ◌&&◌ (roots_tested t old I a) (pairs_tested t I)
     ∙ sym (satisfies-append I (map (formula_at (node_formulas (book_of t))) (book_of t).roots) (map pair_formula (book_of t).pairs))
+
+-- The same by the first root whose byte, among the values written over `old`, is not 2,
+abbrev pub untrue_root : (t old : List ℕ) → Reading → ℕ
+untrue_root t old I = first (λ i. not (eqb (get_or (over (map number (node_values (book_of t) I)) old) (root_in (root_section t) i) 0) 2)) (root_count t)
+
+pub untrue_root_le : (t old : List ℕ) (I : Reading) → untrue_root t old I ≤ root_count t
+untrue_root_le t old I = first_le _ (root_count t)
+
+-- and the first pair whose formula is not 2:
+abbrev pub untrue_pair : (t : List ℕ) → Reading → ℕ
+untrue_pair t I = first (λ i. not (true_here (value I (pair_formula (pair_in (pair_section t) i))))) (pair_count t)
+
+-- a scan for the first that fails says whether all pass,
+scanned : (test : ℕ → Bool) (a n : ℕ) → eqb (first (λ i. not (test (a + i))) n) n ≡ list_all test (range_with_len a n)
+unfolding first
+scanned test a zero = refl
+scanned test a (suc n) = cases (test a)
+    (λ t. rw (add-zero, t) (eqb-suc-suc _ n ∙ ap (λ m. eqb m n) (first_equal (λ i. not (test (a + suc i))) (λ i. not (test (a + 1 + i))) n (λ i l. ap (λ j. not (test j)) (omega arith))) ∙ scanned test (a + 1) n))
+    (λ t. rw (add-zero, t) (eqb-zero-suc n))
+
+scanned-all : (test : ℕ → Bool) (n : ℕ) → eqb (first (λ i. not (test i)) n) n ≡ list_all test (range_with_len 0 n)
+scanned-all test n = ap (λ m. eqb m n) (first_equal (λ i. not (test i)) (λ i. not (test (0 + i))) n (λ i l. ap (λ j. not (test j)) (sym (zero-add i)))) ∙ scanned test 0 n
+
+-- so a reading satisfies the book where there is neither.
+pub satisfies-book : (t old : List ℕ) (I : Reading) → Formed t
+    → (eqb (untrue_root t old I) (root_count t) && eqb (untrue_pair t I) (pair_count t)) ≡ satisfies I (book_formulas (book_of t))
+satisfies-book t old I a = ap₂ ◌&&◌ (scanned-all _ (root_count t)) (scanned-all _ (pair_count t)) ∙ satisfies-each t old I a

@@ -1,7 +1,7 @@
--- `satisfied` says whether a reading satisfies: the roots are tested by the values written, and then the pairs, by `satisfies-book`. Assumes nothing.
+-- `satisfied` says whether a reading satisfies: the roots are tested by the values written, and then the pairs, by `satisfies-each`. Assumes nothing.
 use Rattle.std.proofs.Common.{◌≡◌, ◌∙◌, sym, Bool, true, false, ◌&&◌, arith}
 use Rattle.theory.proofs.Accepted.{accepted}
-use Rattle.theory.proofs.Satisfaction.{satisfies-book}
+use Rattle.theory.proofs.Satisfaction.{satisfies-each}
 use Rattle.theory.proofs.Theory.satisfied.Goals as goal
 
 -- Where the first half holds the second is the whole, and where it fails it is.
@@ -21,11 +21,11 @@ pairs_hold-requires-clause-by_index c =
 
 pub returns-then-roots_hold : goal.returns-then-roots_hold
 returns-then-roots_hold c =
-    both (satisfies-book _ _ _ (accepted c.args.self.now.image.now c.args.self.now.checked))
+    both (satisfies-each _ _ _ (accepted c.args.self.now.image.now c.args.self.now.checked))
     (rw (c.values.ensures, c.root_section.ensures.value, c.roots.ensures.0) at c.roots_hold.ensures) c.if-roots_hold.true
     (rw (c.pair_section.ensures.value, c.pairs.ensures.0) at c.pairs_hold.ensures)
 
 pub returns-else-roots_hold : goal.returns-else-roots_hold
 returns-else-roots_hold c =
-    first-half _ (satisfies-book _ _ _ (accepted c.args.self.now.image.now c.args.self.now.checked))
+    first-half _ (satisfies-each _ _ _ (accepted c.args.self.now.image.now c.args.self.now.checked))
     (rw (c.values.ensures, c.root_section.ensures.value, c.roots.ensures.0) at c.roots_hold.ensures) c.if-roots_hold.false
