@@ -346,7 +346,7 @@ impl<'a> Under<'a> {
     }
 
     // The largest value of the first `count` slots.
-    #[tactic(auto, using(crate::proofs::Literals::largest_none, crate::proofs::Literals::largest_more))]
+    #[tactic(auto, using(crate::proofs::Literals::largest_none, crate::proofs::Literals::largest_slot))]
     fn largest_head(&self, count: usize) -> Value
         requires { count ≤ used_at self.now.rule.now }
         ensures { result ≡ largest (value_of (reading_of self.now.reading.now)) (slots_from self.now.rule.now 0 count) }
