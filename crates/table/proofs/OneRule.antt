@@ -65,11 +65,11 @@ length-names (name a ∷ ts) = omega (arith, length-names ts)
 -- ---- literals
 
 -- The literals l of a rule,
-abbrev kept : List ℕ → Literals
+abbrev pub kept : List ℕ → Literals
 kept l = record { used = length l; slots = first_three l }
 
 -- if it stays.
-abbrev state : (removed : Bool) → List ℕ → Option Literals
+abbrev pub state : (removed : Bool) → List ℕ → Option Literals
 state b l = cond b None (Some (kept l))
 
 -- A name takes the next slot.
@@ -101,7 +101,7 @@ added_state false c l n h = cases (eqb n false_term)
     other false f g = rw (f, g, pushed l n h, length-append)
 
 -- and so do n terms.
-added_to_state : (c : Bool) (l : List ℕ) (f : ℕ → ℕ) (n : ℕ) → length l + n ≤ 3
+pub added_to_state : (c : Bool) (l : List ℕ) (f : ℕ → ℕ) (n : ℕ) → length l + n ≤ 3
     → added_to (kept l) (code (constant c)) f n ≡ state (has c (up_to (λ j. decode (f j)) n)) (l ++ names (up_to (λ j. decode (f j)) n))
 unfolding added_to up_to
 added_to_state c l f zero h = rw append-nil
@@ -158,14 +158,14 @@ module _ (f g h : ℕ → ℕ) (H P N : ℕ) (few : H + P + N ≤ 3) where
   abbrev pub Negatives : Literals → Option Literals → Type 0
   Negatives b d = d ≡ added_to b true_term h N
 
-  heads-are : (a : Option Literals) → Heads a → a ≡ state (has true rule.heads) (names rule.heads)
+  pub heads-are : (a : Option Literals) → Heads a → a ≡ state (has true rule.heads) (names rule.heads)
   heads-are a e = e ∙ added_to_state true [] f H (omega arith)
 
-  positives-are : (a : Literals) (b : Option Literals) → Heads (Some a) → Positives a b → b ≡ state (has false rule.positives) (names rule.heads ++ names rule.positives)
+  pub positives-are : (a : Literals) (b : Option Literals) → Heads (Some a) → Positives a b → b ≡ state (has false rule.positives) (names rule.heads ++ names rule.positives)
   positives-are a b e k =
       k ∙ rw (stayed _ _ a (heads-are _ e)).1 (added_to_state false (names rule.heads) g P (omega (arith, few-names f H)))
 
-  negatives-are : (a b : Literals) (d : Option Literals) → Heads (Some a) → Positives a (Some b) → Negatives b d
+  pub negatives-are : (a b : Literals) (d : Option Literals) → Heads (Some a) → Positives a (Some b) → Negatives b d
       → d ≡ state (has true rule.negatives) ((names rule.heads ++ names rule.positives) ++ names rule.negatives)
   negatives-are a b d e k m =
       m ∙ rw (stayed _ _ b (positives-are a _ e k)).1
@@ -223,6 +223,19 @@ slot_named s ok i h =
     let j : ℕ = i - 3 in
     let e : 3 + j ≡ i = omega (arith, h) in
     ltb-true _ _ (rw e at (ok.slots j (omega (arith, h, ok.few)) ∙ lt-ltb j (used_by s) (omega (arith, h))))
+
+-- Among the heads and the positives of a row are no more names than it counts.
+module _ (s terms : List ℕ) (ok : Fillable s) where
+  few-filled : (start count : ℕ) → length (names (map (filled terms) (slots_from s start count))) ≤ count
+  few-filled start count =
+      let ts : List Term = map (filled terms) (slots_from s start count) in
+      omega (arith, length-names ts, length-map (slots_from s start count) (filled terms), length-up_to (λ j. slot_of (get_or s (start + j) 0)) count)
+
+  pub heads-few : length (names (rule_in s terms).heads) ≤ get_or s 0 0
+  heads-few = few-filled 3 (get_or s 0 0)
+
+  pub positives-few : length (names (rule_in s terms).positives) ≤ get_or s 1 0
+  positives-few = few-filled (3 + get_or s 0 0) (get_or s 1 0)
 
 -- A rule that was made has no more literals than it had: three at most where a row is filled,
 made_le : (r : RuleOf Term) → made_literals (made_of r) ≤ length r.heads + length r.positives + length r.negatives
