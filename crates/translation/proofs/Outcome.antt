@@ -7,10 +7,8 @@ use lib.ListN.{length}
 use borrow.Author.Tests.{lt-ltb, le-ltb}
 use Rattle.refusal.specs.Table.{Row, refused, accepted, answer, none}
 use Rattle.refusal.specs.Rows.{row8, reading_rows}
-use Rattle.refusal.specs.declared.Refusal.{Refusal}
-use Rattle.refusal.specs.Refusal.{refused_for}
+use Rattle.refusal.specs.declared.Answer.{Answer}
 use Rattle.refusal.proofs.Table.{answer_past, none_past}
-use Rattle.refusal.proofs.Decided.{number-some}
 use Rattle.wire.specs.Wire.{over}
 use Rattle.wire.proofs.Outcome.{outcome_both, outcome-refused}
 use Rattle.logic.specs.Value.{number}
@@ -46,9 +44,9 @@ module _ (t reading out : List ℕ) where
   qs = row8 (size_of t) (length out) ∷ []
 
   -- the reading is refused by row 9 or 10,
-  pub extend-reading : (why : Refusal) → refused_for why ≡ answer rs 0 → (refused_for why ≡ answer rows (size_of t)) × (out ≡ extended t reading out)
+  pub extend-reading : {a : Answer} → a ≡ answer rs 0 → (a.number ≡ 0 → ⊥) → (a ≡ answer rows (size_of t)) × (out ≡ extended t reading out)
   unfolding extend_rows extended
-  extend-reading why e = outcome_both (outcome-refused rs qs (map number (extend (book_of t) (reading_of reading))) out (size_of t) 0 e (number-some why))
+  extend-reading e refuses = outcome_both (outcome-refused rs qs (map number (extend (book_of t) (reading_of reading))) out (size_of t) 0 e refuses)
 
   module _ (fine : none rs ≡ true) {all : ℕ} (e : all ≡ size_of t) where
     -- the room is too short, and row 8 refuses,

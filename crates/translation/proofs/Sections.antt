@@ -2,9 +2,10 @@
 use mathlib.Core.Path.{◌≡◌}
 use mathlib.Core.Bool.{Bool, true}
 use mathlib.Core.List.{List, ◌++◌}
-use Prim.Native.Nat.{ℕ, ◌+◌, ◌≤◌}
+use Prim.Native.Nat.{ℕ, ◌+◌, ◌*◌, ◌≤◌}
 use native.Mathlib.Omega.{arith}
 use lib.ListN.{length, length-drop, length-append}
+use Rattle.refusal.specs.Limits.{most_nodes}
 use Rattle.refusal.specs.Table.{none}
 use Rattle.theory.specs.Image.{atom_count, node_count, root_count, pair_count, node_section, root_section, pair_section, node_in, root_in, pair_in, book_of}
 use Rattle.theory.specs.Rows.{theory_rows}
@@ -29,6 +30,15 @@ module _ (t : List ℕ) (ok : none (theory_rows t) ≡ true) where
   roots-accepted =
       let a = accepted t ok in
       record { few = a.header.few-roots; long = rw length-drop (omega (arith, a.header.whole)); below = a.roots-below }
+
+  -- A root's term stands in the scratch.
+  pub roots-within : Roots most_nodes (root_section t) (root_count t)
+  roots-within =
+      let r = roots-accepted in
+      record { few = r.few; long = r.long; below = λ i h. omega (arith, r.below i h, nodes-accepted.few) }
+
+  pub pairs-long : pair_count t * 4 ≤ length (pair_section t)
+  pairs-long = rw length-drop (omega (arith, (accepted t ok).header.whole))
 
   -- The rules of the program are those of the nodes, the facts of the roots, by the terms in the scratch, and those of the pairs.
   pub accepted-rules : (scratch : List ℕ) → Numbered t scratch

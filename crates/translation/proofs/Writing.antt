@@ -8,7 +8,7 @@ use lib.ListN.{length, take, drop, length-append}
 use lib.Seq.{length-take-le, drop_at}
 use borrow.Rule.Slice.PartMut.{put_mid}
 use Rattle.wire.specs.Wire.{over}
-use Rattle.wire.proofs.Laws.{length_over, Written, written_none, turn_room, turn}
+use Rattle.wire.proofs.Laws.{part_from, length_over, Written, written_none, turn_room, turn}
 use Rattle.theory.specs.declared.Pair.{Pair}
 use Rattle.program.specs.Rule.{Rule}
 use Rattle.program.specs.Literals.{slotted_bytes}
@@ -32,6 +32,11 @@ over_last head body old out h e =
     let n = length head in
     let l : length (take n old) ≡ n = length-take-le n old h in
     rw (e, append_assoc, drop_at (take n old) _ n l, append_assoc, length-append, l, length-append)
+
+-- What comes of a part of a list that is lent from an index on, and of a count.
+pub lent : {S : Type 0} (f : List ℕ → ℕ → S) (t : List ℕ) {from start n count : ℕ} → from ≡ start → n ≡ count
+    → f (take (length t - from) (drop from t)) n ≡ f (drop start t) count
+lent f t {start = start} e g = rw (e, g, part_from start t)
 
 -- The bytes of a pair's rule: in the fixed form a third slot holds 0.
 pub pair_bytes : (packed : Bool) (q p : Pair) → q ≡ p → slotted_bytes packed (record { heads = 0; positives = 2; negatives = 0; slots = q.first ∷ q.second ∷ 0 ∷ [] }) ≡ rules_bytes packed (pair_rule p ∷ [])

@@ -1,12 +1,13 @@
 -- `extend` tests the reading and the room before it writes a byte: at each return the answer and the output are those of the rows. Assumes nothing.
 use Rattle.std.proofs.lemmas.Result.{err_from_is_err_and}
+use Rattle.refusal.proofs.Decided.{number-some}
 use Rattle.translation.proofs.Outcome.{extend-reading, extend_short, extend-all}
 use Rattle.translation.proofs.extend.Goals as goal
 
 pub returns-in_err-reading : goal.returns-in_err-reading
 returns-in_err-reading c =
     let err = err_from_is_err_and c.from_residual.result c.from_residual.ensures.1 in
-    let r = extend-reading _ c.args.reading.now c.args.out.now c.in_err-reading.field-0.0 (rw c.atoms-atoms.ensures.0 at c.in_err-reading.ensures) in
+    let r = extend-reading _ c.args.reading.now c.args.out.now (rw c.atoms-atoms.ensures.0 at c.in_err-reading.ensures) (number-some c.in_err-reading.field-0.0) in
     rw (err.1, err.2) (record { value = r.0; out_after = r.1 })
 
 -- what is compared is B
