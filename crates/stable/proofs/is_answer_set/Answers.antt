@@ -6,7 +6,7 @@ use Rattle.stable.specs.Testable.{Testable}
 use Rattle.stable.specs.Subset.{set_of, lowered}
 use Rattle.stable.proofs.Candidates.{length-set_of}
 use Rattle.stable.proofs.Steps.{places_from-below}
-use Rattle.stable.proofs.Tests.{satisfies_lowered, testable_length, testable_candidate, testable_small, full_reading, stepped, answer_unsatisfied, answer_iff, answer-smaller}
+use Rattle.stable.proofs.Tests.{satisfies_lowered, testable_length, testable_candidate, testable_within, full_reading, stepped, answer_unsatisfied, answer_iff, answer-smaller}
 use Rattle.stable.proofs.is_answer_set.Goals as goal
 
 -- the call at the reading after a step says whether the smaller one with this number satisfies
@@ -25,7 +25,7 @@ pub places_of-count-requires-clause-candidate : goal.places_of-count-requires-cl
 places_of-count-requires-clause-candidate g c = testable_candidate _ _ c.requires.testable
 
 pub places_of-count-requires-clause-candidate_len_bound : goal.places_of-count-requires-clause-candidate_len_bound
-places_of-count-requires-clause-candidate_len_bound g c = testable_small _ _ c.requires.testable
+places_of-count-requires-clause-candidate_len_bound g c = testable_within _ _ c.requires.testable
 
 pub loop-init : goal.loop-init
 loop-init g c = record {
