@@ -10,7 +10,7 @@ use Rattle.table.specs.Shapes.{first_row}
 use Rattle.translation.specs.Turns.{Nodes}
 
 -- A byte over 5 is that of the last kind.
-kind_of_last : (b : ℕ) → 5 < b → kind_of b ≡ Implies
+pub kind_of_last : (b : ℕ) → 5 < b → kind_of b ≡ Implies
 kind_of_last b h =
     let other : (n : ℕ) → n < b → eqb b n ≡ false = λ n l. ne_eqb b n (λ e. omega arith) in
     simp (other 0 (omega arith), other 1 (omega arith), other 2 (omega arith), other 3 (omega arith), other 4 (omega arith), other 5 (omega arith))
