@@ -40,6 +40,8 @@ pub fn put(out: &mut [u8], bytes: &[u8]) -> usize
     ensures value { result ≡ length bytes.now }
     ensures out_after { out.new ≡ over bytes.now out.old }
 {
-    out[..bytes.len()].copy_from_slice(bytes);
+    for (i, byte) in bytes.iter().enumerate() {
+        out[i] = *byte;
+    }
     bytes.len()
 }
