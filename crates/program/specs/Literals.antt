@@ -1,10 +1,10 @@
 -- The literals of a rule as the code walks along them and writes them: notes on the code, which no public promise names.
-use Rattle.std.specs.Prelude.{Bool, true, cond, List, ◌++◌, ℕ, ◌+◌, ◌*◌, ◌≤◌, ◌<◌, ltb, length, take}
+use Rattle.std.specs.Prelude.{Bool, true, cond, List, ◌∷◌, ◌++◌, ℕ, ◌+◌, ◌*◌, ◌≤◌, ◌<◌, ltb, length, take}
 use Rattle.wire.specs.Wire.{u16_bytes, over}
 use Rattle.logic.specs.declared.Value.{Value}
 use Rattle.logic.specs.Value.{negation}
 use Rattle.logic.specs.Formula.{Reading, value_of}
-use Rattle.program.specs.Image.{most_literals, rule_length, used_at, slot_at, counted_bytes}
+use Rattle.program.specs.Image.{most_literals, rule_length, used_at, slot_at, slot_bytes, counted_bytes}
 
 -- The rule at the start of a slice has all its literals there, and each is below a size.
 pub record Named (s : List ℕ) (size : ℕ) : Type 0 where
@@ -30,6 +30,10 @@ pub record Slotted : Type 0 where
 -- How many literals it has,
 abbrev pub slotted_used : Slotted → ℕ
 slotted_used r = r.heads + r.positives + r.negatives
+
+-- the bytes of its counts and of its first n slots,
+abbrev pub first_bytes : (n : ℕ) → Slotted → List ℕ
+first_bytes n r = r.heads ∷ r.positives ∷ r.negatives ∷ 0 ∷ slot_bytes r.slots n
 
 -- and its bytes.
 abbrev pub slotted_bytes : (packed : Bool) → Slotted → List ℕ

@@ -12,7 +12,7 @@ ghost use Rattle.program.specs.Rule.{smallest, largest, holds};
 ghost use Rattle.program.specs.Program.{satisfies_program};
 ghost use Rattle.program.specs.Image.{atom_count, size_of, most_literals, slot_count, rule_length, used_at, slot_at, slots_from, rule_at, length_at, program_of};
 ghost use Rattle.program.specs.Image.{slot_keeps, slots_keep, rule_keeps, image_length, header};
-ghost use Rattle.program.specs.Literals.{Named, literal_value, slot_put, Slotted, slotted_used, slotted_bytes};
+ghost use Rattle.program.specs.Literals.{Named, literal_value, slot_put, Slotted, slotted_used, first_bytes, slotted_bytes};
 ghost use Rattle.program.specs.Rows.{outside, total_keeps, header_rows, rules_row, program_rows};
 
 use logic::Value;
@@ -68,7 +68,7 @@ pub fn header_bytes(packed: bool, atoms: usize, size: usize, rules: usize, total
 }
 
 // A rule of at most three literals: how many heads, positives and negatives it has, and what stands in its slots.
-#[derive(Drop)]
+#[derive(Clone, Copy)]
 pub struct Rule {
     pub heads: usize,
     pub positives: usize,
@@ -81,6 +81,8 @@ impl Model for Rule {
 
     ghost view = { λ r. record { heads = r.heads; positives = r.positives; negatives = r.negatives; slots = r.slots } };
 
+    ghost inverse = { λ r. record { heads = r.heads; positives = r.positives; negatives = r.negatives; slots = r.slots } };
+
     ghost invariant = { λ r. r.heads + r.positives + r.negatives ≤ 3 };
 }
 
@@ -92,14 +94,25 @@ impl Rule {
         self.heads + self.positives + self.negatives
     }
 
-    // Writes it over the start of `out`, and gives how many bytes it has.
+    // Writes it over the start of `out`, and gives how many bytes it has. The fixed form's number of slots stands here as it is, so that no slot is tested there.
     #[tactic(auto, using(crate::proofs::Lengths::slot_lengths))]
     pub fn put(&self, out: &mut [u8], packed: bool) -> usize
         requires { length (slotted_bytes packed self.now) ≤ length out.old }
         ensures value { result ≡ length (slotted_bytes packed self.now) }
         ensures out_after { out.new ≡ over (slotted_bytes packed self.now) out.old }
     {
-        let written = if packed { self.literals() } else { 3 };
+        if packed {
+            return self.put_first(out, self.literals());
+        }
+        self.put_first(out, 3)
+    }
+
+    // Writes its counts and its first n slots over the start of `out`, and gives how many bytes these are.
+    fn put_first(&self, out: &mut [u8], n: usize) -> usize
+        requires { (n ≤ 3) × (4 + n * 2 ≤ length out.old) }
+        ensures value { result ≡ 4 + n * 2 }
+        ensures out_after { out.new ≡ over (first_bytes n self.now) out.old }
+    {
         let counts = [
             self.heads as u8,
             self.positives as u8,
@@ -107,10 +120,10 @@ impl Rule {
             0,
         ];
         wire::put(out, &counts);
-        put_slot(out, written, 0, self.slots[0]);
-        put_slot(out, written, 1, self.slots[1]);
-        put_slot(out, written, 2, self.slots[2]);
-        4 + written * 2
+        put_slot(out, n, 0, self.slots[0]);
+        put_slot(out, n, 1, self.slots[1]);
+        put_slot(out, n, 2, self.slots[2]);
+        4 + n * 2
     }
 }
 
