@@ -1,5 +1,5 @@
 -- What a node's first byte says, and where the rows of a kind stand: laws that the notes of the landings name. By cases on the byte and on the kind. Assumes nothing.
-use Rattle.std.proofs.Common.{◌≡◌, false, List, ℕ, zero, suc, ◌+◌, ◌*◌, ◌<◌, ◌≤◌, arith, eqb, ltb, length, get_or}
+use Rattle.std.proofs.Common.{◌≡◌, false, List, ℕ, zero, suc, ◌+◌, ◌*◌, ◌<◌, ◌≤◌, arith, eqb, length, get_or}
 use borrow.Author.Tests.{ltb-false, ne_eqb}
 use Rattle.refusal.proofs.First.{first-none}
 use Rattle.theory.specs.declared.Kind.{Kind}

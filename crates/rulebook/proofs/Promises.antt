@@ -1,11 +1,13 @@
 -- What is promised, in document 01's order. Each statement uses only definitions of specs/, and each proof cites the law behind it.
-use Rattle.std.specs.Prelude.{◌≡◌, ◌↔◌, ◌⊎◌, Bool, true, false, not, ◌&&◌, cond, ℕ, suc, min, max, ◌+◌, ◌/◌, ◌%◌, ◌≤◌, ◌<◌, ltb, leb, eqb, length, get_or, take, drop}
+use Rattle.std.specs.Prelude.{◌≡◌, ◌↔◌, ◌⊎◌, Bool, true, false, not, ◌&&◌, cond, ℕ, Result, suc, min, max, ◌+◌, ◌/◌, ◌%◌, ◌≤◌, ◌<◌, ltb, leb, eqb, length, get_or, take, drop}
 use Rattle.std.proofs.Math.Path.{refl}
 use Rattle.std.proofs.Common.{sym, ◌∙◌, arith}
 use mathlib.Core.List.{List, ◌∷◌, ◌++◌, map, Memᴰ}
 use Rattle.refusal.specs.declared.Answer.{Answer}
+use Rattle.refusal.specs.declared.Refusal.{Refusal}
 use Rattle.refusal.specs.Limits.{most_atoms, most_nodes, most_roots, most_pairs, most_b, most_rules}
 use Rattle.refusal.specs.Table.{Row, accepted, yes, answer, none, unused, Exact}
+use Rattle.refusal.specs.Refusal.{answer_of}
 use Rattle.refusal.specs.First.{FirstAt}
 use Rattle.refusal.specs.Rows.{wrong, row10, argument_rows, reading_rows}
 use Rattle.refusal.proofs.Table.{answer-none, answer_exact, answer-unused, none_split}
@@ -13,6 +15,7 @@ use Rattle.wire.specs.Wire.{Bytes}
 use Rattle.wire.specs.Outcome.{outcome, written}
 use Rattle.wire.proofs.Outcome
 use Rattle.refusal.proofs.First.{first_is}
+use Rattle.refusal.proofs.Outcomes.{answer_of_one}
 use Rattle.logic.specs.declared.Value.{Value}
 use Rattle.logic.specs.declared.Value.TheVariants.{Both}
 use Rattle.logic.specs.Value.{number, smaller, larger, negation, implication}
@@ -69,6 +72,9 @@ use Rattle.rulebook.specs.Calls.{extend_call_rows, extend, ExtendsReading, test_
 use Rattle.rulebook.specs.Calls.{test_program_rows, test_program, TestsProgram, list_sets_rows, list_sets, ListsSets}
 
 -- Demand 1: no two outcomes meet a call's contract, and each row's number is given exactly where that row applies and no earlier one does.
+
+outcome_unique : (a b : Result ℕ Refusal) → answer_of a ≡ answer_of b → a ≡ b
+outcome_unique = answer_of_one
 
 check_theory_unique : (t : List ℕ) (a b : Answer) → ChecksTheory t a → ChecksTheory t b → a ≡ b
 check_theory_unique t a b d e = d ∙ sym e
