@@ -259,7 +259,7 @@ fn slot_at(rule: &[u8], i: usize) -> usize
     wire::u16_at(rule, 4 + i * 2)
 }
 
-// Whether each slot of a rule of `used` literals keeps its part.
+// Whether each slot of a rule of `used` literals keeps its part. In the fixed form all three are tested, so that the compiled code need not jump at each.
 #[tactic(auto, unfolding(crate::specs::Image::slots_keep))]
 fn slots_keep(rule: &[u8], packed: bool, used: usize, size: usize) -> bool
     requires { (used < 65536) × (rule_length packed used ≤ length rule.now) }
@@ -269,8 +269,8 @@ fn slots_keep(rule: &[u8], packed: bool, used: usize, size: usize) -> bool
         return atoms_keep(rule, used, size);
     }
     slot_keeps(slot_at(rule, 0), 0, used, size)
-        && (slot_keeps(slot_at(rule, 1), 1, used, size)
-            && slot_keeps(slot_at(rule, 2), 2, used, size))
+        & (slot_keeps(slot_at(rule, 1), 1, used, size)
+            & slot_keeps(slot_at(rule, 2), 2, used, size))
 }
 
 // Whether the first `used` slots hold atoms below `size`.
